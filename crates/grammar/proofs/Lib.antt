@@ -1,0 +1,14 @@
+pub mod Language
+pub mod Unfold
+pub mod Run
+pub mod Steps
+pub mod Choice
+pub mod Heads
+pub mod Decimal
+pub mod Terms
+pub mod Meaning
+pub mod One
+pub mod Judged
+pub mod Solid
+pub mod OneFormula
+pub mod OneText

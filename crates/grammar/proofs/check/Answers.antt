@@ -1,0 +1,15 @@
+use mathlib.Core.Path.{_≡_, _∙_}
+use borrow.Author.Needs.{needs}
+use Rattle.std.specs.declared.result.Result.the-variants.{Err}
+use Rattle.grammar.specs.Machine.{start}
+use Rattle.grammar.specs.Recording.{Legal}
+use Rattle.grammar.proofs.Judged.{tracks-legal, judged, broken}
+use Rattle.grammar.proofs.check.Needs as need
+
+pub returns-in-Break-last : need.returns-in-Break-last
+returns-in-Break-last c =
+    let e : c .from-residual .result ≡ Err (c .in-Break-last .field-0 .0) = search needs in
+    broken Legal start (c .args .text .now) (c .in-Break-last .field-0 .0) (c .from-residual .result) tracks-legal e (c .in-Break-last .ensures tt .moves)
+
+pub returns : need.returns
+returns c = judged Legal start (c .args .text .now) (c .end .result) tracks-legal (c .in-Continue-last .ensures tt .moves ∙ c .end .ensures)

@@ -1,0 +1,9 @@
+pub mod Going
+pub mod Numerals
+pub mod Meeting
+pub mod Taking
+pub mod Neatness
+pub mod Loops
+pub mod Building
+pub mod Answering
+pub mod OneReading
