@@ -1,0 +1,11 @@
+pub mod Truth
+pub mod Table
+pub mod Step
+pub mod Meant
+pub mod Theorem
+pub mod Words
+pub mod Faults
+pub mod Reading
+pub mod Suiting
+pub mod Spelling
+pub mod Making
