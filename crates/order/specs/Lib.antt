@@ -1,0 +1,14 @@
+pub mod Trace
+pub mod Before
+pub mod Groups
+pub mod Runs
+pub mod Cuts
+pub mod Clocks
+pub mod Tests
+pub mod Sound
+pub mod Noted
+pub mod Maps
+pub mod Waiting
+pub mod Theorems
+pub mod Reached
+pub mod Examples
