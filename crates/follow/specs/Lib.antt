@@ -1,0 +1,6 @@
+pub mod Balance
+pub mod Answers
+pub mod Roles
+pub mod Made
+pub mod Filling
+pub mod Looking
