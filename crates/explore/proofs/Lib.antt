@@ -1,0 +1,11 @@
+pub mod Places
+pub mod Advance
+pub mod Fronts
+pub mod Words
+pub mod Back
+pub mod Paths
+pub mod Rounds
+pub mod Ordered
+pub mod Tables
+pub mod ReadBack
+pub mod Walk

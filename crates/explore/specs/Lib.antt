@@ -1,0 +1,12 @@
+pub mod System
+pub mod Rows
+pub mod Listing
+pub mod Paths
+pub mod Levels
+pub mod Rounds
+pub mod Upto
+pub mod Theorems
+pub mod Entries
+pub mod Tables
+pub mod ReadBack
+pub mod Walk
