@@ -1,0 +1,4 @@
+pub mod Spots
+pub mod Latest
+pub mod Filled
+pub mod Laws

@@ -1,0 +1,4 @@
+pub mod Numbers
+pub mod Mapped
+pub mod Rows
+pub mod Latest

@@ -1,0 +1,4 @@
+pub mod Noting
+pub mod Judging
+pub mod Replaying
+pub mod Traces
