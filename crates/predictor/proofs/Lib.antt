@@ -1,0 +1,4 @@
+pub mod Progress
+pub mod Ruling
+pub mod Stops
+pub mod Telling

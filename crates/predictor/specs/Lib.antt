@@ -1,0 +1,5 @@
+pub mod Faults
+pub mod Lines
+pub mod Outcome
+pub mod Ruled
+pub mod Predicted
