@@ -1,4 +1,4 @@
-// Calls made directly, as a program that uses the library makes them: each refusal by its number,
+// Calls made directly, as a program that uses the library makes them: refusals by their numbers,
 // rules by their truth after each event, and a rule against an automaton for the same property.
 mod agreement;
 mod refusals;

@@ -1,4 +1,4 @@
-// Every refusal of a call, by its number.
+// Refusals of calls by their numbers, those among them that no recording can bring about.
 use automaton::Arc;
 use automaton::Automaton;
 use automaton::watch::AutomatonMonitor;
