@@ -1,5 +1,7 @@
 // Nondeterministic automata that watch a run. A code's bit s stands for state s: the code is the set
 // of the states that the automaton can be in.
+#![tactic(auto)]
+
 pub mod arc;
 pub mod automaton;
 pub mod fault;

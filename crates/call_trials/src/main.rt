@@ -1,5 +1,7 @@
 // Calls made directly, as a program that uses the library makes them: refusals by their numbers,
 // rules by their truth after each event, and a rule against an automaton for the same property.
+#![tactic(auto)]
+
 mod agreement;
 mod refusals;
 mod rules;

@@ -1,5 +1,7 @@
 // Bits of codes. A code is an unsigned 64-bit number that stands for a set of numbers below 64: bit
 // s is set where s is of the set.
+#![tactic(auto)]
+
 ghost use Rattle.std.specs.Prelude.{◌≡◌};
 ghost use Rattle.codes.specs.Codes.{bit_of, onlyBit};
 

@@ -1,5 +1,7 @@
 // What is recorded, and the words in which a trace speaks of it: actions of threads, events,
 // kinds, locks, and the reasons why an opening or an event is refused.
+#![tactic(auto)]
+
 pub mod event;
 pub mod kind;
 pub mod lock;

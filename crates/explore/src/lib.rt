@@ -1,4 +1,6 @@
 // Reaching every node of a system, breadth first.
+#![tactic(auto)]
+
 pub mod engine;
 pub mod entry;
 pub mod example;

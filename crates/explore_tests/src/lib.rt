@@ -1,4 +1,6 @@
 // A small machine, with rows of its own, on which the engine is run.
+#![tactic(auto)]
+
 ghost use Rattle.std.specs.Prelude.{◌==◌};
 ghost use Rattle.explore.specs.Walk.{walk};
 ghost use Rattle.std.proofs.Common.{rules};

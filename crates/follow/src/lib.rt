@@ -1,4 +1,6 @@
 // Which event may follow a cut, decided from tables that are made once for a noted list.
+#![tactic(auto)]
+
 pub mod answer;
 mod fill;
 mod next;

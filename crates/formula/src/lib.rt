@@ -1,5 +1,7 @@
 // Rules in past-time temporal logic as monitors: a formula is a table of its subformulas, a code has
 // their truths after the latest event as its bits, and one event is one pass over the table.
+#![tactic(auto)]
+
 pub mod compile;
 pub mod fault;
 pub mod formula;

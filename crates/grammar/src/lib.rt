@@ -1,4 +1,6 @@
 // Which texts are legal: recordings, and rules alone.
+#![tactic(auto)]
+
 mod bytes;
 pub mod flaw;
 mod formula;

@@ -1,4 +1,6 @@
 // The map of a trace: a row for each noted event, by thread and then by place.
+#![tactic(auto)]
+
 mod clocks;
 mod kinds;
 mod places;

@@ -1,4 +1,6 @@
 // Reads a recording from standard input and prints what the predictor says of it.
+#![tactic(auto)]
+
 use events::Event;
 use judge::{SearchRow, Verdict};
 use predictor::{Fault, Prediction, Stop};

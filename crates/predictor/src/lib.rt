@@ -1,5 +1,7 @@
 // From the text of a recording to what the predictor says of it: the layers joined, and what is
 // printed of their answers.
+#![tactic(auto)]
+
 pub mod fault;
 mod judging;
 mod noting;

@@ -1,4 +1,6 @@
 // Tables whose rows the caller lends: a list that adds at its end, and the first row with a key.
+#![tactic(auto)]
+
 pub mod keyed;
 pub mod list;
 pub mod reading;

@@ -1,4 +1,6 @@
 // The text of a recording: its tokens, and what it says.
+#![tactic(auto)]
+
 mod build;
 pub mod fault;
 pub mod laws;

@@ -1,5 +1,7 @@
 // A trace: what threads do with variables and locks, noted event by event over rows that the caller
 // lends.
+#![tactic(auto)]
+
 ghost use Rattle.std.specs.Prelude.{◌≡◌, ◌≤◌, true, length};
 ghost use Rattle.events.specs.Accepted.{accepted};
 ghost use Rattle.rows.specs.Listed.{lent, count, listed};

@@ -1,4 +1,6 @@
 // Runs the predictor on each case of standard input, and prints what it says.
+#![tactic(auto)]
+
 mod cases;
 mod small;
 

@@ -1,4 +1,6 @@
 // Worked traces: what the definitions say of small recordings.
+#![tactic(auto)]
+
 ghost use Rattle.std.specs.Prelude.{◌≡◌, true};
 ghost use Rattle.worked.specs.Traces.{worked, RulesTabled};
 
