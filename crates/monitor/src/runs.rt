@@ -15,9 +15,9 @@ pub struct Verdict {
 // Steps the monitor through the actions. Since a bad code stays bad, the code at the end tells
 // whether any was bad.
 pub fn run<M: Monitor>(monitor: &M, actions: &[Action]) -> Verdict
-    ensures code { result.code ≡ ran (meaning monitor.now) actions.now }
-    ensures violated { Decides result.violated (Violates (meaning monitor.now) actions.now) }
-    ensures tells { Decides ((meaning monitor.now).bad result.code) (Violates (meaning monitor.now) actions.now) }
+    ensures code { result.code ≡ ran (M.Monitor.meaning monitor.now) actions.now }
+    ensures violated { Decides result.violated (Violates (M.Monitor.meaning monitor.now) actions.now) }
+    ensures tells { Decides ((M.Monitor.meaning monitor.now).bad result.code) (Violates (M.Monitor.meaning monitor.now) actions.now) }
 {
     let mut code = monitor.start();
     for action in actions {

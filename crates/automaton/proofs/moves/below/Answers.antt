@@ -4,8 +4,8 @@ use Rattle.std.proofs.lemmas.Nat.{pow_pos}
 use Rattle.codes.proofs.Bitwise.{only_pow}
 use Rattle.automaton.proofs.moves.below.Goals as goal
 
-pub overflow-sub-result : goal.overflow-sub-result
-overflow-sub-result c = omega (arith, c.only.ensures, only_pow c.args.bits c.requires, pow_pos c.args.bits)
+pub overflow_sub-result : goal.overflow_sub-result
+overflow_sub-result c = omega (arith, c.only.ensures, only_pow c.args.bits c.requires, pow_pos c.args.bits)
 
 pub returns : goal.returns
 returns c =

@@ -15,8 +15,8 @@ returns c =
     let few : states_counted c.args.self.now.states ≤ 64 = omega (arith, count_few c.args.self.now.states) in
     let is : c.below.result ≡ stepped (states_counted c.args.self.now.states) c.args.self.now.bad c.args.self.now.arcs.now c.args.code c.args.action =
     joined_at n m.bad m.arcs.now c.args.code c.args.action few
-    c.turned-turn.result.left c.turned-turn.result.reached c.state-count-count.result c.below-here.result c.below.result
-    c.state-count-count.ensures c.below-here.ensures c.turned-turn.ensures.left c.turned-turn.ensures.reached c.below.ensures in
+    c.turned-turn.result.left c.turned-turn.result.reached c.state_count-count.result c.below-here.result c.below.result
+    c.state_count-count.ensures c.below-here.ensures c.turned-turn.ensures.left c.turned-turn.ensures.reached c.below.ensures in
     record {
       code = is;
       rule = λ s h. Decides-at _ _ (ap (λ x. bit_of x s) is) (decides_reaches n m.bad m.arcs.now c.args.code c.args.action s h);
