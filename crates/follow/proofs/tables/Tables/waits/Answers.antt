@@ -7,11 +7,11 @@ use Rattle.follow.proofs.tables.Tables.waits.Goals as goal
 over_more : (f : ℕ → ℕ) (n m x : ℕ) → m ≡ n + 1 → x ≡ f n → over_threads f n + x ≡ over_threads f m
 over_more f n m x e h = ap (λ z. over_threads f n + z) h ∙ ap (over_threads f) (let q : suc n ≡ m = omega arith in q)
 
-pub overflow-add-led : goal.overflow-add-led
-overflow-add-led c = omega (arith, c.loop-t.invariant.2, c.loop-t.auto)
+pub overflow_add-led : goal.overflow_add-led
+overflow_add-led c = omega (arith, c.loop-t.invariant.2, c.loop-t.auto)
 
-pub overflow-add-taken : goal.overflow-add-taken
-overflow-add-taken c = omega (arith, c.loop-t.invariant.3, c.loop-t.auto)
+pub overflow_add-taken : goal.overflow_add-taken
+overflow_add-taken c = omega (arith, c.loop-t.invariant.3, c.loop-t.auto)
 
 pub loop-t-init : goal.loop-t-init
 loop-t-init c = (omega arith, refl, omega arith, omega arith, λ u l. absurd (omega arith))
