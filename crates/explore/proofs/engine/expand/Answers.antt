@@ -5,24 +5,24 @@ use Rattle.explore.specs.Tables.{Grown}
 use Rattle.explore.proofs.Tables.{grown_on, row_done, leaves_err}
 use Rattle.explore.proofs.engine.expand.Goals as goal
 
-pub returns-in-err-try-label : goal.returns-in-err-try-label
-returns-in-err-try-label g c =
-    let after = c.try-label.new.list in
+pub returns-in_err-try_label : goal.returns-in_err-try_label
+returns-in_err-try_label g c =
+    let after = c.try_label.new.list in
     record {
       grown = grown_on (lent c.args.list.now) (lent c.loop-label.list) (lent after) (count c.args.list.now) (count c.loop-label.list) (count after)
-          c.loop-label.invariant.1 c.in-err-try-label.ensures.grown;
+          c.loop-label.invariant.1 c.in_err-try_label.ensures.grown;
       leaves = leaves_err (g.M.Machine.system c.args.machine.now) (length (lent after)) (rows_of g.R.Keyed.keyed g.R.Traced.foundFrom g.R.Traced.foundBy (listed after)) (c.args.i + 1) 0
-          c.from-residual.result c.from-residual.ensures.0 c.in-err-try-label.ensures.leaves;
-      loan = c.in-err-try-label.ensures.loan ∙ c.loop-label.invariant.2;
+          c.from_residual.result c.from_residual.ensures.0 c.in_err-try_label.ensures.leaves;
+      loan = c.in_err-try_label.ensures.loan ∙ c.loop-label.invariant.2;
     }
 
 pub loop-label-preserved : goal.loop-label-preserved
 loop-label-preserved g c =
-    let after = c.try-label.new.list in (
-      c.in-ok-try-label.ensures.leaves,
+    let after = c.try_label.new.list in (
+      c.in_ok-try_label.ensures.leaves,
       grown_on (lent c.args.list.now) (lent c.loop-label.list) (lent after) (count c.args.list.now) (count c.loop-label.list) (count after)
-          c.loop-label.invariant.1 c.in-ok-try-label.ensures.grown,
-      c.in-ok-try-label.ensures.loan ∙ c.loop-label.invariant.2,
+          c.loop-label.invariant.1 c.in_ok-try_label.ensures.grown,
+      c.in_ok-try_label.ensures.loan ∙ c.loop-label.invariant.2,
     )
 
 pub returns : goal.returns

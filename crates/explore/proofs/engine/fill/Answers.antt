@@ -5,13 +5,13 @@ use Rattle.explore.specs.Tables.{Grown}
 use Rattle.explore.proofs.Tables.{grown_same, grown_on, grown_pushed, when_ok, when_err, first_in, first_out, all_done, leaves_full, leaves_upto}
 use Rattle.explore.proofs.engine.fill.Goals as goal
 
-pub returns-then-is-err : goal.returns-then-is-err
-returns-then-is-err g c =
+pub returns-then-is_err : goal.returns-then-is_err
+returns-then-is_err g c =
     let list = c.args.list.now in
     let after = c.push.new.self in
     let grown : Grown (lent list) (lent after) (count list) (count after) =
     grown_pushed (lent list) (lent after) (count list) (count after) c.new.result (roomy list) refl (omega (arith, c.requires)) c.push.ensures.count c.push.ensures.lent in
-    let full : roomy list ≡ false = when_err (roomy list) c.push.result _ _ c.push.ensures.place (sym c.is-err.ensures.value ∙ c.if-is-err.true) in
+    let full : roomy list ≡ false = when_err (roomy list) c.push.result _ _ c.push.ensures.place (sym c.is_err.ensures.value ∙ c.if-is_err.true) in
     record {
       grown = grown;
       holds = first_out g.R.Keyed.keyed g.R.Traced.foundFrom g.R.Traced.foundBy (g.M.Machine.system c.args.machine.now) (lent list) (listed after) (count list) c.requires
@@ -19,8 +19,8 @@ returns-then-is-err g c =
       loan = c.push.ensures.loan;
     }
 
-pub returns-then-is-err-2 : goal.returns-then-is-err-2
-returns-then-is-err-2 g c =
+pub returns-then-is_err-2 : goal.returns-then-is_err-2
+returns-then-is_err-2 g c =
     let list = c.args.list.now in
     let first = c.push.new.self in
     let after = c.expand.new.list in
@@ -30,7 +30,7 @@ returns-then-is-err-2 g c =
       grown = grown_on (lent list) (lent first) (lent after) (count list) (count first) (count after) grown
           (grown_on (lent first) (lent c.loop-i.list) (lent after) (count first) (count c.loop-i.list) (count after) c.loop-i.invariant.1 c.expand.ensures.grown);
       holds = leaves_full (g.M.Machine.system c.args.machine.now) (length (lent after)) (rows_of g.R.Keyed.keyed g.R.Traced.foundFrom g.R.Traced.foundBy (listed after)) (c.loop-i.i + 1) 0
-          c.expand.result (sym c.is-err-in-loop-i.ensures.value ∙ c.if-is-err-2.true) c.expand.ensures.leaves;
+          c.expand.result (sym c.is_err-in-loop-i.ensures.value ∙ c.if-is_err-2.true) c.expand.ensures.leaves;
       loan = c.expand.ensures.loan ∙ c.loop-i.invariant.2 ∙ c.push.ensures.loan;
     }
 
@@ -40,7 +40,7 @@ loop-i-init g c =
     let after = c.push.new.self in
     let grown : Grown (lent list) (lent after) (count list) (count after) =
     grown_pushed (lent list) (lent after) (count list) (count after) c.new.result (roomy list) refl (omega (arith, c.requires)) c.push.ensures.count c.push.ensures.lent in
-    let free : roomy list ≡ true = when_ok (roomy list) c.push.result _ _ c.push.ensures.place (sym c.is-err.ensures.value ∙ c.if-is-err.false) in (
+    let free : roomy list ≡ true = when_ok (roomy list) c.push.result _ _ c.push.ensures.place (sym c.is_err.ensures.value ∙ c.if-is_err.false) in (
       first_in g.R.Keyed.keyed g.R.Traced.foundFrom g.R.Traced.foundBy (g.M.Machine.system c.args.machine.now) (lent list) (listed after) (count list) c.requires
           c.new.result (roomy list) free c.push.ensures.listed (c.new.ensures.node ∙ c.first.ensures) c.new.ensures.from c.new.ensures.label,
       grown_same (lent after) (count after) grown.fits,
@@ -52,7 +52,7 @@ loop-i-preserved g c =
     let first = c.push.new.self in
     let after = c.expand.new.list in (
       leaves_upto (g.M.Machine.system c.args.machine.now) (length (lent after)) (rows_of g.R.Keyed.keyed g.R.Traced.foundFrom g.R.Traced.foundBy (listed after)) (c.loop-i.i + 1) 0
-          c.expand.result (sym c.is-err-in-loop-i.ensures.value ∙ c.if-is-err-2.false) c.expand.ensures.leaves,
+          c.expand.result (sym c.is_err-in-loop-i.ensures.value ∙ c.if-is_err-2.false) c.expand.ensures.leaves,
       grown_on (lent first) (lent c.loop-i.list) (lent after) (count first) (count c.loop-i.list) (count after) c.loop-i.invariant.1 c.expand.ensures.grown,
       c.expand.ensures.loan ∙ c.loop-i.invariant.2,
     )

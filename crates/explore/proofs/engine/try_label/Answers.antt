@@ -10,7 +10,7 @@ returns-in-None g c =
     record {
       grown = grown_same (lent c.args.list.now) (count c.args.list.now) c.requires.room;
       leaves = try_none g.R.Keyed.keyed g.R.Traced.foundFrom g.R.Traced.foundBy (g.M.Machine.system c.args.machine.now) (lent c.args.list.now) (count c.args.list.now) c.args.i c.args.label
-          c.index-as-slice-i.result c.node.result c.requires.upto c.requires.room c.requires.inside c.as-slice.result.now c.as-slice.ensures c.index-as-slice-i.is c.node.ensures c.in-None.ensures;
+          c.index-as_slice-i.result c.node.result c.requires.upto c.requires.room c.requires.inside c.as_slice.result.now c.as_slice.ensures c.index-as_slice-i.is c.node.ensures c.in-None.ensures;
       loan = refl;
     }
 
@@ -19,38 +19,38 @@ returns-then-stands g c =
     record {
       grown = grown_same (lent c.args.list.now) (count c.args.list.now) c.requires.room;
       leaves = try_seen g.R.Keyed.keyed g.R.Traced.foundFrom g.R.Traced.foundBy (g.M.Machine.system c.args.machine.now) (lent c.args.list.now) (count c.args.list.now) c.args.i c.args.label
-          c.index-as-slice-i.result c.node.result c.requires.upto c.requires.room c.requires.inside c.as-slice.result.now c.as-slice.ensures c.index-as-slice-i.is c.node.ensures
+          c.index-as_slice-i.result c.node.result c.requires.upto c.requires.room c.requires.inside c.as_slice.result.now c.as_slice.ensures c.index-as_slice-i.is c.node.ensures
           c.in-Some.node c.in-Some.ensures c.if-stands.ensures;
       loan = refl;
     }
 
-pub returns-in-err-push : goal.returns-in-err-push
-returns-in-err-push g c =
+pub returns-in_err-push : goal.returns-in_err-push
+returns-in_err-push g c =
     let list = c.args.list.now in
     let after = c.push.new.self in
     let grown : Grown (lent list) (lent after) (count list) (count after) =
-    grown_pushed (lent list) (lent after) (count list) (count after) c.new.result (roomy list) refl c.requires.room c.in-err-push.ensures.count c.in-err-push.ensures.lent in
-    let full : roomy list ≡ false = when_err (roomy list) _ _ _ c.in-err-push.ensures.place refl in
+    grown_pushed (lent list) (lent after) (count list) (count after) c.new.result (roomy list) refl c.requires.room c.in_err-push.ensures.count c.in_err-push.ensures.lent in
+    let full : roomy list ≡ false = when_err (roomy list) _ _ _ c.in_err-push.ensures.place refl in
     record {
       grown = grown;
       leaves = leaves_err (g.M.Machine.system c.args.machine.now) (length (lent after)) (rows_of g.R.Keyed.keyed g.R.Traced.foundFrom g.R.Traced.foundBy (listed after)) c.args.i (c.args.label + 1)
-          c.from-residual.result c.from-residual.ensures.0
+          c.from_residual.result c.from_residual.ensures.0
           (try_full g.R.Keyed.keyed g.R.Traced.foundFrom g.R.Traced.foundBy (g.M.Machine.system c.args.machine.now) (lent list) (count list) c.args.i c.args.label
-          c.index-as-slice-i.result c.node.result c.requires.upto c.requires.room c.requires.inside c.as-slice.result.now c.as-slice.ensures c.index-as-slice-i.is c.node.ensures
-          c.in-Some.node c.in-Some.ensures c.requires.valid c.if-stands.ensures (listed after) c.new.result (length (lent after)) grown.long full (roomy list) full c.in-err-push.ensures.listed);
-      loan = c.in-err-push.ensures.loan;
+          c.index-as_slice-i.result c.node.result c.requires.upto c.requires.room c.requires.inside c.as_slice.result.now c.as_slice.ensures c.index-as_slice-i.is c.node.ensures
+          c.in-Some.node c.in-Some.ensures c.requires.valid c.if-stands.ensures (listed after) c.new.result (length (lent after)) grown.long full (roomy list) full c.in_err-push.ensures.listed);
+      loan = c.in_err-push.ensures.loan;
     }
 
 pub returns : goal.returns
 returns g c =
     let list = c.args.list.now in
     let after = c.push.new.self in
-    let free : roomy list ≡ true = when_ok (roomy list) _ _ _ c.in-ok-push.ensures.place refl in
+    let free : roomy list ≡ true = when_ok (roomy list) _ _ _ c.in_ok-push.ensures.place refl in
     record {
-      grown = grown_pushed (lent list) (lent after) (count list) (count after) c.new.result (roomy list) refl c.requires.room c.in-ok-push.ensures.count c.in-ok-push.ensures.lent;
+      grown = grown_pushed (lent list) (lent after) (count list) (count after) c.new.result (roomy list) refl c.requires.room c.in_ok-push.ensures.count c.in_ok-push.ensures.lent;
       leaves = try_new g.R.Keyed.keyed g.R.Traced.foundFrom g.R.Traced.foundBy (g.M.Machine.system c.args.machine.now) (lent list) (count list) c.args.i c.args.label
-          c.index-as-slice-i.result c.node.result c.requires.upto c.requires.room c.requires.inside c.as-slice.result.now c.as-slice.ensures c.index-as-slice-i.is c.node.ensures
+          c.index-as_slice-i.result c.node.result c.requires.upto c.requires.room c.requires.inside c.as_slice.result.now c.as_slice.ensures c.index-as_slice-i.is c.node.ensures
           c.in-Some.node c.in-Some.ensures c.requires.valid c.if-stands.ensures (listed after)
-          c.new.result c.new.ensures.node c.new.ensures.from c.new.ensures.label (roomy list) free c.in-ok-push.ensures.listed;
-      loan = c.in-ok-push.ensures.loan;
+          c.new.result c.new.ensures.node c.new.ensures.from c.new.ensures.label (roomy list) free c.in_ok-push.ensures.listed;
+      loan = c.in_ok-push.ensures.loan;
     }

@@ -14,5 +14,5 @@ pub returns : goal.returns
 returns g c =
     let fs = map g.R.Traced.foundFrom c.args.rows.now in
     let ls = map g.R.Traced.foundBy c.args.rows.now in
-    let e = ap length (path_root fs ls c.loop-from.place c.in-default.ensures) in
+    let e = ap length (path_root fs ls c.loop-from.place c.in_default.ensures) in
     omega (arith, c.loop-from.invariant.0)

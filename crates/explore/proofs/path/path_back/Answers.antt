@@ -3,8 +3,8 @@ use Rattle.std.proofs.lemmas.List.{length-set}
 use Rattle.explore.proofs.ReadBack.{some_parent, path_more, path_root, laid_more, label_read}
 use Rattle.explore.proofs.path.path_back.Goals as goal
 
-pub overflow-sub-n : goal.overflow-sub-n
-overflow-sub-n g c =
+pub overflow_sub-n : goal.overflow_sub-n
+overflow_sub-n g c =
     let fs = map g.R.Traced.foundFrom c.args.rows.now in
     let ls = map g.R.Traced.foundBy c.args.rows.now in
     let e = path_more fs ls c.loop-from.i c.in-Some.from c.in-Some.ensures in
@@ -37,7 +37,7 @@ returns g c =
     let fs = map g.R.Traced.foundFrom c.args.rows.now in
     let ls = map g.R.Traced.foundBy c.args.rows.now in
     let v = c.loop-from.invariant in
-    let e = path_root fs ls c.loop-from.i c.in-default.ensures in
+    let e = path_root fs ls c.loop-from.i c.in_default.ensures in
     let n : c.loop-from.n ≡ 0 = v.1 ∙ ap length e in
     record {
       answer = search rules;

@@ -6,6 +6,6 @@ pub returns : goal.returns
 returns c =
     let t = c.args.self.now in
     record {
-      value = c.as-slice.ensures;
+      value = c.as_slice.ensures;
       noted = (accepted_decides (opening_of t) (noted_of t)).0 t.noted;
     }

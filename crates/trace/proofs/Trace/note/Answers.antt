@@ -9,12 +9,12 @@ use Rattle.trace.specs.Meaning.{noted_of, action_by, rows_after}
 use Rattle.trace.proofs.Notes.{left_all, left_none, note_refuses, note_gives}
 use Rattle.trace.proofs.Trace.note.Goals as goal
 
-pub returns-in-err-place : goal.returns-in-err-place
-returns-in-err-place c =
-    let p = err_from_is_err_and c.from-residual.result c.from-residual.ensures.1 in
+pub returns-in_err-place : goal.returns-in_err-place
+returns-in_err-place c =
+    let p = err_from_is_err_and c.from_residual.result c.from_residual.ensures.1 in
     let t = c.args.self.now in
     let a = action_by c.args.thread c.args.kind c.args.subject c.args.value in
-    let h = c.in-err-place.ensures in
+    let h = c.in_err-place.ensures in
     let why = note_refuses t c.args.thread c.args.kind c.args.subject c.args.value _ _ _ _ (to_z-of_z w32 c.args.value c.ranges.value) c.len.ensures c.capacity.ensures h.says in
     rw (p.1, p.2)
     record {
@@ -26,24 +26,32 @@ returns-in-err-place c =
       loan = refl;
     }
 
-pub invariant-of-self-2 : goal.invariant-of-self-2
-invariant-of-self-2 c =
-    let h = c.in-ok-place.ensures in
+pub invariant_of-self-2 : goal.invariant_of-self-2
+invariant_of-self-2 c =
+    let h = c.in_ok-place.ensures in
     let e = c.push.ensures in
     let g = note_gives c.args.self.now c.args.thread c.args.kind c.args.subject c.args.value _ _ _ _ c.step.new.self c.push.new.self (to_z-of_z w32 c.args.value c.ranges.value) c.len.ensures c.capacity.ensures h.says h.next e.count e.lent e.listed in
     let k = g.keeps in
-    ((k.few_threads, k.few_variables, k.few_events), ((k.values_size, k.locks_size, k.counts_size), ((k.threads_are, k.variables_are), (k.valued, (k.locked, (k.counted, (k.accepted_all, tt)))))))
+    record {
+      within = (k.few_threads, k.few_variables, k.few_events);
+      sizes = (k.values_size, k.locks_size, k.counts_size);
+      opened = (k.threads_are, k.variables_are);
+      values = k.valued;
+      locks = k.locked;
+      counts = k.counted;
+      noted = k.accepted_all;
+    }
 
 pub returns : goal.returns
 returns c =
-    let h = c.in-ok-place.ensures in
+    let h = c.in_ok-place.ensures in
     let e = c.push.ensures in
     let g = note_gives c.args.self.now c.args.thread c.args.kind c.args.subject c.args.value _ _ _ _ c.step.new.self c.push.new.self (to_z-of_z w32 c.args.value c.ranges.value) c.len.ensures c.capacity.ensures h.says h.next e.count e.lent e.listed in
     record {
       says = g.says;
       noted = g.noted_is;
       opening = g.opening_is;
-      rows = g.rows-are;
+      rows = g.rows_are;
       kept = left_none _ _ _ g.not_refused_lem;
       loan = e.loan;
     }

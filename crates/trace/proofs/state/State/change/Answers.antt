@@ -13,11 +13,11 @@ returns-in-Acquire c =
       next = turned c.args.self.now c.args.kind c.args.action c.turn.result c.turn.new.lock lock c.turn.ensures.next;
     }
 
-pub returns-in-ok-room : goal.returns-in-ok-room
-returns-in-ok-room c =
+pub returns-in_ok-room-in-Write : goal.returns-in_ok-room-in-Write
+returns-in_ok-room-in-Write c =
     let fits : SFits w32 c.args.action.value = search rules in
     record {
-      says = sym c.in-ok-room.was ∙ room_alone _ c.args.kind c.args.action.thread c.args.room (ap (λ (k : Kind). ltb (kind_number k) 3) c.in-Write.is);
+      says = sym c.in_ok-room.was ∙ room_alone _ c.args.kind c.args.action.thread c.args.room (ap (λ (k : Kind). ltb (kind_number k) 3) c.in-Write.is);
       next = written c.args.self.now c.args.kind c.args.action _ c.in-Write.is (to_z-of_z w32 c.args.action.value fits);
     }
 

@@ -9,41 +9,41 @@ use Rattle.trace.specs.Steps.{lockTests, stepTests, nextPlace, placed, or_else}
 use Rattle.trace.proofs.Fits.{step_form, step_value, step_lock, told_err}
 use Rattle.trace.proofs.state.State.step.Goals as goal
 
-pub returns-in-err-kind : goal.returns-in-err-kind
-returns-in-err-kind c =
-    let p = err_from_is_err_and c.from-residual.result c.from-residual.ensures.1 in
+pub returns-in_err-kind : goal.returns-in_err-kind
+returns-in_err-kind c =
+    let p = err_from_is_err_and c.from_residual.result c.from_residual.ensures.1 in
     let s = c.args.self.now in
     let a = c.args.action in
     rw (p.1, p.2)
     record {
-      says = sym (ap (λ (o : Option Refusal). placed o (nextPlace s a.thread)) (step_form s c.args.spare a _ c.in-err-kind.ensures));
+      says = sym (ap (λ (o : Option Refusal). placed o (nextPlace s a.thread)) (step_form s c.args.spare a _ c.in_err-kind.ensures));
       next = refl;
     }
 
-pub returns-in-err-weigh : goal.returns-in-err-weigh
-returns-in-err-weigh c =
-    let p = err_from_is_err_and c.from-residual-in-err-weigh.result c.from-residual-in-err-weigh.ensures.1 in
+pub returns-in_err-weigh : goal.returns-in_err-weigh
+returns-in_err-weigh c =
+    let p = err_from_is_err_and c.from_residual-in_err-weigh.result c.from_residual-in_err-weigh.ensures.1 in
     let s = c.args.self.now in
     let a = c.args.action in
-    let k = c.in-ok-kind.ensures in
+    let k = c.in_ok-kind.ensures in
     let fits : SFits w32 c.args.action.value = search rules in
     rw (p.1, p.2)
     record {
-      says = sym (ap (λ (o : Option Refusal). placed o (nextPlace s a.thread)) (step_value s c.args.spare a (kind_number c.in-ok-kind.kind) _ _ k.0 k.3 (to_z-of_z w32 a.value fits) c.in-err-weigh.ensures));
+      says = sym (ap (λ (o : Option Refusal). placed o (nextPlace s a.thread)) (step_value s c.args.spare a (kind_number c.in_ok-kind.kind) _ _ k.0 k.3 (to_z-of_z w32 a.value fits) c.in_err-weigh.ensures));
       next = refl;
     }
 
-pub returns-in-err-change : goal.returns-in-err-change
-returns-in-err-change c =
-    let p = err_from_is_err_and c.from-residual-in-err-change.result c.from-residual-in-err-change.ensures.1 in
+pub returns-in_err-change : goal.returns-in_err-change
+returns-in_err-change c =
+    let p = err_from_is_err_and c.from_residual-in_err-change.result c.from_residual-in_err-change.ensures.1 in
     let s = c.args.self.now in
     let a = c.args.action in
-    let k = c.in-ok-kind.ensures in
+    let k = c.in_ok-kind.ensures in
     let fits : SFits w32 c.args.action.value = search rules in
-    let h = c.in-err-change.ensures in
+    let h = c.in_err-change.ensures in
     let all = h.says
-    ∙ ap (λ (r : Result (Unit {0}) Refusal). or_else (first_fit (lockTests (get_or s.locks a.subject Free) (kind_number c.in-ok-kind.kind) a.thread)) r) c.room-room.ensures
-    ∙ step_lock s c.args.spare a (kind_number c.in-ok-kind.kind) _ _ k.0 k.3 (to_z-of_z w32 a.value fits) c.in-ok-weigh.ensures in
+    ∙ ap (λ (r : Result (Unit {0}) Refusal). or_else (first_fit (lockTests (get_or s.locks a.subject Free) (kind_number c.in_ok-kind.kind) a.thread)) r) c.room-room.ensures
+    ∙ step_lock s c.args.spare a (kind_number c.in_ok-kind.kind) _ _ k.0 k.3 (to_z-of_z w32 a.value fits) c.in_ok-weigh.ensures in
     rw (p.1, p.2)
     record {
       says = sym (ap (λ (o : Option Refusal). placed o (nextPlace s a.thread)) (told_err (first_fit (stepTests s c.args.spare a)) _ all));
