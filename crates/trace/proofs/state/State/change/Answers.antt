@@ -17,7 +17,7 @@ pub returns-in_ok-room-in-Write : goal.returns-in_ok-room-in-Write
 returns-in_ok-room-in-Write c =
     let fits : SFits w32 c.args.action.value = search rules in
     record {
-      says = sym c.in_ok-room.was ∙ room_alone _ c.args.kind c.args.action.thread c.args.room (ap (λ (k : Kind). ltb (kind_number k) 3) c.in-Write.is);
+      says = sym c.in_ok-room-in-Write.was ∙ room_alone _ c.args.kind c.args.action.thread c.args.room (ap (λ (k : Kind). ltb (kind_number k) 3) c.in-Write.is);
       next = written c.args.self.now c.args.kind c.args.action _ c.in-Write.is (to_z-of_z w32 c.args.action.value fits);
     }
 
