@@ -17,23 +17,23 @@ spelt_more w cs i j k lk lj e d =
     d ∙ ap (λ (u : List ℕ). take k cs ++ u) (drop_more w j 0 lj ∙ ap (λ (b : ℕ). b ∷ drop (j + 1) w) e)
     ∙ sym (append_assoc (take k cs) (get_or cs k 0 ∷ []) (drop (j + 1) w)) ∙ ap (λ (u : List ℕ). u ++ drop (j + 1) w) (sym (take_more cs k 0 lk))
 
-pub returns-in-err-i : goal.returns-in-err-i
-returns-in-err-i c =
-    let e : c.from-residual.result ≡ Err c.in-err-i.field-0.0 = search rules in
-    let q = failed-word c.args.w.now c.args.text.now c.args.from c.in-err-i.field-0.0 c.from-residual.result e
+pub returns-in_err-i : goal.returns-in_err-i
+returns-in_err-i c =
+    let e : c.from_residual.result ≡ Err c.in_err-i.field-0.0 = search rules in
+    let q = failed-word c.args.w.now c.args.text.now c.args.from c.in_err-i.field-0.0 c.from_residual.result e
     (λ s. unread c.args.text.now c.args.w.now c.args.from c.loop-c.i c.loop-c.c-index s (omega arith) (c.loop-c.invariant.3 s)
-    ∙ c.in-err-i.ensures.moves (lits (drop (c.loop-c.c-index + 1) c.args.w.now) s)) in
+    ∙ c.in_err-i.ensures.moves (lits (drop (c.loop-c.c-index + 1) c.args.w.now) s)) in
     record { within = q.0; spelt = q.1; moves = q.2 }
 
 pub loop-c-preserved : goal.loop-c-preserved
 loop-c-preserved c =
-    let h = c.in-ok-i.ensures.stands in (
+    let h = c.in_ok-i.ensures.stands in (
       omega (arith, h.0),
-      c.in-ok-i.ensures.within,
+      c.in_ok-i.ensures.within,
       spelt_more c.args.text.now c.args.w.now c.args.from c.loop-c.i c.loop-c.c-index (omega arith) h.1 h.2 c.loop-c.invariant.2
           ∙ ap (λ (j : ℕ). take (c.loop-c.c-index + 1) c.args.w.now ++ drop j c.args.text.now) (sym h.0),
       λ s. unread c.args.text.now c.args.w.now c.args.from c.loop-c.i c.loop-c.c-index s (omega arith) (c.loop-c.invariant.3 s)
-          ∙ c.in-ok-i.ensures.moves (lits (drop (c.loop-c.c-index + 1) c.args.w.now) s),
+          ∙ c.in_ok-i.ensures.moves (lits (drop (c.loop-c.c-index + 1) c.args.w.now) s),
     )
 
 pub returns : goal.returns

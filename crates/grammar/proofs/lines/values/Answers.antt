@@ -3,12 +3,12 @@ use Rattle.grammar.specs.Machine.{n, t, is, tail, vals}
 use Rattle.grammar.proofs.Steps.{failed-values, vals-none, vals-some, tail-no-digit, at-end}
 use Rattle.grammar.proofs.lines.values.Goals as goal
 
-pub returns-in-err-first : goal.returns-in-err-first
-returns-in-err-first c =
-    let e : c.from-residual.result ≡ Err c.in-err-first.field-0.0 = search rules in
-    let q = failed-values vals c.args.text.now c.args.i c.in-err-first.field-0.0 c.from-residual.result e
+pub returns-in_err-first : goal.returns-in_err-first
+returns-in_err-first c =
+    let e : c.from_residual.result ≡ Err c.in_err-first.field-0.0 = search rules in
+    let q = failed-values vals c.args.text.now c.args.i c.in_err-first.field-0.0 c.from_residual.result e
     (λ s. vals-some s c.args.i c.args.text.now (omega arith)
-    ∙ c.in-err-first.ensures.moves (n tail ∷ t (is 41) ∷ s) (tail-no-digit s)) in
+    ∙ c.in_err-first.ensures.moves (n tail ∷ t (is 41) ∷ s) (tail-no-digit s)) in
     record { within = q.0; moves = q.1 }
 
 pub returns-then-text-i-eq41 : goal.returns-then-text-i-eq41
@@ -17,11 +17,11 @@ returns-then-text-i-eq41 c = record {
   moves = λ s. vals-none s c.args.i c.args.text.now (omega arith) (omega arith);
 }
 
-pub returns-in-ok-first : goal.returns-in-ok-first
-returns-in-ok-first c = record {
+pub returns-in_ok-first : goal.returns-in_ok-first
+returns-in_ok-first c = record {
   within = c.further.ensures.within;
   moves = λ s. vals-some s c.args.i c.args.text.now (omega arith)
-      ∙ c.in-ok-first.ensures.moves (n tail ∷ t (is 41) ∷ s) (tail-no-digit s) ∙ c.further.ensures.moves s;
+      ∙ c.in_ok-first.ensures.moves (n tail ∷ t (is 41) ∷ s) (tail-no-digit s) ∙ c.further.ensures.moves s;
 }
 
 pub returns-else-i-text : goal.returns-else-i-text

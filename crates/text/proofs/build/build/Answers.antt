@@ -16,47 +16,47 @@ counting c =
 
 valuing : (c : After-next) → Stand (pieces c.requires.0) c.next.new.self (values_on c.requires.0)
 valuing c =
-    let two = c.in-ok-threads.ensures.taken _ _ _ c.requires.0.threads (counting (goal.at.After-next c).After-verb) refl in
+    let two = c.in_ok-threads.ensures.taken _ _ _ c.requires.0.threads (counting (goal.at.After-next c).After-verb) refl in
     (meet {s = c.small.new.reader} {e = c.next.new.self} two.1 refl (next_moved {s = c.small.new.reader} {e = c.next.new.self} c.next.ensures.text c.next.ensures.token)).goes tt
 
 lining : (c : After-next-2) → Stand (pieces c.requires.0) c.next-2.new.self (newline ∷ lines_on c.requires.0)
 lining c =
-    let four = c.in-ok-starts.ensures _ _ _ c.requires.0.starts (valuing (goal.at.After-next-2 c).After-next) (trim_values c.requires.0.starts _) in
+    let four = c.in_ok-starts.ensures _ _ _ c.requires.0.starts (valuing (goal.at.After-next-2 c).After-next) (trim_values c.requires.0.starts _) in
     (meet {s = c.values.new.reader} {e = c.next-2.new.self} four.1 refl (next_moved {s = c.values.new.reader} {e = c.next-2.new.self} c.next-2.ensures.text c.next-2.ensures.token)).goes tt
 
 ruling : (c : After-pass) → Stand (pieces c.requires.0) c.pass.new.self (rule_on c.requires.0)
 ruling c =
     let r = c.requires.0 in
-    let six = c.in-ok-actions.ensures _ _ _ r.actions c.requires.1.actions (lining (goal.at.After-pass c).After-next-2) (at_lines r) in
+    let six = c.in_ok-actions.ensures _ _ _ r.actions c.requires.1.actions (lining (goal.at.After-pass c).After-next-2) (at_lines r) in
     at_rule r c.actions.new.reader c.pass.new.self six.1 c.pass.ensures.text c.pass.ensures.at
 
-pub returns-in-err-threads : goal.returns-in-err-threads
-returns-in-err-threads c =
+pub returns-in_err-threads : goal.returns-in_err-threads
+returns-in_err-threads c =
     let r = c.requires.0 in
-    let p = err_from_is_err_and c.from-residual.result c.from-residual.ensures.1 in
-    let at = counting (goal.at.returns-in-err-threads c).After-verb in
-    built_out c.args.text.now r c.requires.1 c.requires.2 p.1 p.2 (c.in-err-threads.ensures.taken _ _ _ r.threads at refl)
+    let p = err_from_is_err_and c.from_residual.result c.from_residual.ensures.1 in
+    let at = counting (goal.at.returns-in_err-threads c).After-verb in
+    built_out c.args.text.now r c.requires.1 c.requires.2 p.1 p.2 (c.in_err-threads.ensures.taken _ _ _ r.threads at refl)
 
-pub returns-in-err-starts : goal.returns-in-err-starts
-returns-in-err-starts c =
+pub returns-in_err-starts : goal.returns-in_err-starts
+returns-in_err-starts c =
     let r = c.requires.0 in
-    let p = err_from_is_err_and c.from-residual-in-err-starts.result c.from-residual-in-err-starts.ensures.1 in
-    let at = valuing (goal.at.returns-in-err-starts c).After-next in
-    built_fails c.args.text.now r c.requires.1 c.requires.2 p.1 p.2 (c.in-err-starts.ensures _ _ _ r.starts at (trim_values r.starts _))
+    let p = err_from_is_err_and c.from_residual-in_err-starts.result c.from_residual-in_err-starts.ensures.1 in
+    let at = valuing (goal.at.returns-in_err-starts c).After-next in
+    built_fails c.args.text.now r c.requires.1 c.requires.2 p.1 p.2 (c.in_err-starts.ensures _ _ _ r.starts at (trim_values r.starts _))
 
-pub returns-in-err-actions : goal.returns-in-err-actions
-returns-in-err-actions c =
+pub returns-in_err-actions : goal.returns-in_err-actions
+returns-in_err-actions c =
     let r = c.requires.0 in
-    let p = err_from_is_err_and c.from-residual-in-err-actions.result c.from-residual-in-err-actions.ensures.1 in
-    let at = lining (goal.at.returns-in-err-actions c).After-next-2 in
-    built_fails c.args.text.now r c.requires.1 c.requires.2 p.1 p.2 (c.in-err-actions.ensures _ _ _ r.actions c.requires.1.actions at (at_lines r))
+    let p = err_from_is_err_and c.from_residual-in_err-actions.result c.from_residual-in_err-actions.ensures.1 in
+    let at = lining (goal.at.returns-in_err-actions c).After-next-2 in
+    built_fails c.args.text.now r c.requires.1 c.requires.2 p.1 p.2 (c.in_err-actions.ensures _ _ _ r.actions c.requires.1.actions at (at_lines r))
 
-pub returns-in-err-rule : goal.returns-in-err-rule
-returns-in-err-rule c =
+pub returns-in_err-rule : goal.returns-in_err-rule
+returns-in_err-rule c =
     let r = c.requires.0 in
-    let p = err_from_is_err_and c.from-residual-in-err-rule.result c.from-residual-in-err-rule.ensures.1 in
-    let at = ruling (goal.at.returns-in-err-rule c).After-pass in
-    built_out c.args.text.now r c.requires.1 c.requires.2 p.1 p.2 (c.in-err-rule.ensures _ _ at (rule_roles r))
+    let p = err_from_is_err_and c.from_residual-in_err-rule.result c.from_residual-in_err-rule.ensures.1 in
+    let at = ruling (goal.at.returns-in_err-rule c).After-pass in
+    built_out c.args.text.now r c.requires.1 c.requires.2 p.1 p.2 (c.in_err-rule.ensures _ _ at (rule_roles r))
 
 pub part-requires : goal.part-requires
 part-requires c =
@@ -68,15 +68,15 @@ returns c =
     let r = c.requires.0 in
     let t = c.args.text.now in
     let e = c.pass.new.self in
-    let counted = c.in-ok-threads.ensures.taken _ _ _ r.threads (counting (goal.at.returns c).After-verb) refl in
-    let valued = c.in-ok-starts.ensures _ _ _ r.starts (valuing (goal.at.returns c).After-next) (trim_values r.starts _) in
-    let lined = c.in-ok-actions.ensures _ _ _ r.actions c.requires.1.actions (lining (goal.at.returns c).After-next-2) (at_lines r) in
+    let counted = c.in_ok-threads.ensures.taken _ _ _ r.threads (counting (goal.at.returns c).After-verb) refl in
+    let valued = c.in_ok-starts.ensures _ _ _ r.starts (valuing (goal.at.returns c).After-next) (trim_values r.starts _) in
+    let lined = c.in_ok-actions.ensures _ _ _ r.actions c.requires.1.actions (lining (goal.at.returns c).After-next-2) (at_lines r) in
     let at = ruling (goal.at.returns c).After-pass in
     let spells = c.part.ensures ∙ rule_part r t e c.requires.2 at in
     let same : e.text.now ≡ t = at.text ∙ sym c.requires.2 in
     built_ok t r
-    (record { threads = c.in-ok-threads.threads; starts = c.in-ok-starts.starts; actions = c.in-ok-actions.actions; rule = c.part.result; rule_place = e.place })
-    c.requires.1 c.requires.2 counted.0 valued.0 lined.0 (c.in-ok-rule.ensures _ _ at (rule_roles r))
+    (record { threads = c.in_ok-threads.threads; starts = c.in_ok-starts.starts; actions = c.in_ok-actions.actions; rule = c.part.result; rule_place = e.place })
+    c.requires.1 c.requires.2 counted.0 valued.0 lined.0 (c.in_ok-rule.ensures _ _ at (rule_roles r))
     (record {
       spells = spells;
       at = e.at;

@@ -10,34 +10,34 @@ use Rattle.text.proofs.build.event.Goals as goal
 ending_is : (k : ℕ) (a : Action) (more : List Piece) → k ≡ a.kind → ending a.kind a.value more ≡ ending k a.value more
 ending_is k a more e = ap (λ (i : ℕ). ending i a.value more) (sym e)
 
-pub returns-in-err-thread : goal.returns-in-err-thread
-returns-in-err-thread c =
-    let p = err_from_is_err_and c.from-residual.result c.from-residual.ensures.1 in
+pub returns-in_err-thread : goal.returns-in_err-thread
+returns-in_err-thread c =
+    let p = err_from_is_err_and c.from_residual.result c.from_residual.ensures.1 in
     record {
       onward = moved_onward c.small.ensures.moved;
-      taken = λ whole ps rest a stand line. outside_err whole (newline ∷ rest) c.small.new.reader a p.1 p.2 (c.in-err-thread.ensures.taken whole ps _ a.thread stand (ap trim line.pieces));
+      taken = λ whole ps rest a stand line. outside_err whole (newline ∷ rest) c.small.new.reader a p.1 p.2 (c.in_err-thread.ensures.taken whole ps _ a.thread stand (ap trim line.pieces));
     }
 
-pub returns-in-err-subject : goal.returns-in-err-subject
-returns-in-err-subject c =
-    let p = err_from_is_err_and c.from-residual-in-err-subject.result c.from-residual-in-err-subject.ensures.1 in
+pub returns-in_err-subject : goal.returns-in_err-subject
+returns-in_err-subject c =
+    let p = err_from_is_err_and c.from_residual-in_err-subject.result c.from_residual-in_err-subject.ensures.1 in
     record {
       onward = onward_more (moved_onward c.small.ensures.moved) (moved_onward c.small-2.ensures.moved);
       taken = λ whole ps rest a stand line.
-          let one = c.in-ok-thread.ensures.taken whole ps _ a.thread stand (ap trim line.pieces) in
-          outside_err whole (newline ∷ rest) c.small-2.new.reader a p.1 p.2 (c.in-err-subject.ensures.taken whole _ _ a.subject one.1 refl);
+          let one = c.in_ok-thread.ensures.taken whole ps _ a.thread stand (ap trim line.pieces) in
+          outside_err whole (newline ∷ rest) c.small-2.new.reader a p.1 p.2 (c.in_err-subject.ensures.taken whole _ _ a.subject one.1 refl);
     }
 
-pub returns-in-err-value : goal.returns-in-err-value
-returns-in-err-value c =
-    let p = err_from_is_err_and c.from-residual-in-err-value.result c.from-residual-in-err-value.ensures.1 in
+pub returns-in_err-value : goal.returns-in_err-value
+returns-in_err-value c =
+    let p = err_from_is_err_and c.from_residual-in_err-value.result c.from_residual-in_err-value.ensures.1 in
     record {
       onward = onward_more (onward_more (moved_onward c.small.ensures.moved) (moved_onward c.small-2.ensures.moved)) c.value.ensures.onward;
       taken = λ whole ps rest a stand line.
-          let one = c.in-ok-thread.ensures.taken whole ps _ a.thread stand (ap trim line.pieces) in
-          let two = c.in-ok-subject.ensures.taken whole _ _ a.subject one.1 refl in
+          let one = c.in_ok-thread.ensures.taken whole ps _ a.thread stand (ap trim line.pieces) in
+          let two = c.in_ok-subject.ensures.taken whole _ _ a.subject one.1 refl in
           let lock : 3 ≤ c.args.kind → a.value ≡ pos 0 = λ h. line.lock (rw line.kind at h) in
-          outside_err whole (newline ∷ rest) c.value.new.reader a p.1 p.2 (c.in-err-value.ensures.taken whole _ _ a.value two.1 (ending_is c.args.kind a (closing ∷ newline ∷ rest) line.kind) lock);
+          outside_err whole (newline ∷ rest) c.value.new.reader a p.1 p.2 (c.in_err-value.ensures.taken whole _ _ a.value two.1 (ending_is c.args.kind a (closing ∷ newline ∷ rest) line.kind) lock);
     }
 
 pub returns : goal.returns
@@ -46,10 +46,10 @@ returns c =
     record {
       onward = onward_more (onward_more (onward_more (moved_onward c.small.ensures.moved) (moved_onward c.small-2.ensures.moved)) c.value.ensures.onward) (moved_onward last);
       taken = λ whole ps rest a stand line.
-          let one = c.in-ok-thread.ensures.taken whole ps _ a.thread stand (ap trim line.pieces) in
-          let two = c.in-ok-subject.ensures.taken whole _ _ a.subject one.1 refl in
+          let one = c.in_ok-thread.ensures.taken whole ps _ a.thread stand (ap trim line.pieces) in
+          let two = c.in_ok-subject.ensures.taken whole _ _ a.subject one.1 refl in
           let lock : 3 ≤ c.args.kind → a.value ≡ pos 0 = λ h. line.lock (rw line.kind at h) in
-          let fits : SFits w32 c.in-ok-value.value = search rules in
-          let three = c.in-ok-value.ensures.taken whole _ _ a.value two.1 (ending_is c.args.kind a (closing ∷ newline ∷ rest) line.kind) lock in
+          let fits : SFits w32 c.in_ok-value.value = search rules in
+          let three = c.in_ok-value.ensures.taken whole _ _ a.value two.1 (ending_is c.args.kind a (closing ∷ newline ∷ rest) line.kind) lock in
           (action_is a _ _ _ _ one.0 line.kind two.0 (to_z-of_z fits ∙ three.0), (meet three.1 refl last).goes tt);
     }

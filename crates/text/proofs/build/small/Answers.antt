@@ -3,10 +3,10 @@ use Rattle.text.proofs.Meeting.{meet}
 use Rattle.text.proofs.Taking.{never_none, small_taken}
 use Rattle.text.proofs.build.small.Goals as goal
 
-pub returns-in-default : goal.returns-in-default
-returns-in-default c = record {
+pub returns-in_default : goal.returns-in_default
+returns-in_default c = record {
   moved = c.number.ensures.moved;
-  taken = λ whole ps rest n stand is. elim (never_none (meet stand is c.number.ensures.moved) (decimal n) refl c.in-default.ensures.number) [ ];
+  taken = λ whole ps rest n stand is. elim (never_none (meet stand is c.number.ensures.moved) (decimal n) refl c.in_default.ensures.number) [ ];
 }
 
 pub returns : goal.returns

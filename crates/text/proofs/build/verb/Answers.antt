@@ -3,8 +3,8 @@ use Rattle.text.proofs.Meeting.{meet}
 use Rattle.text.proofs.Taking.{kind_none, kind_some, moved_onward, next_moved, onward_more, word_moves}
 use Rattle.text.proofs.build.verb.Goals as goal
 
-pub returns-in-default : goal.returns-in-default
-returns-in-default c =
+pub returns-in_default : goal.returns-in_default
+returns-in_default c =
     let one = next_moved c.next.ensures.text c.next.ensures.token in
     let two = c.word.ensures.moved in
     record {
@@ -12,7 +12,7 @@ returns-in-default c =
       further = λ e. let z : ◌≡◌ {A = ℕ} 0 1 = cc in omega arith;
       kind = λ whole ps rest w stand is.
           let m = meet stand is one in
-          let n = meet (m.goes tt) refl two in elim (kind_none n c.in-default.ensures.word) [ ];
+          let n = meet (m.goes tt) refl two in elim (kind_none n c.in_default.ensures.word) [ ];
     }
 
 pub returns : goal.returns

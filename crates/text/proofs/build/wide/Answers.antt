@@ -4,10 +4,10 @@ use Rattle.text.proofs.Meeting.{meet}
 use Rattle.text.proofs.Taking.{never_none, wide_taken}
 use Rattle.text.proofs.build.wide.Goals as goal
 
-pub returns-in-default : goal.returns-in-default
-returns-in-default c = record {
+pub returns-in_default : goal.returns-in_default
+returns-in_default c = record {
   moved = c.number.ensures.moved;
-  taken = λ whole ps rest z stand is. elim (never_none (meet stand is c.number.ensures.moved) (signed_decimal z) refl c.in-default.ensures.number) [ ];
+  taken = λ whole ps rest z stand is. elim (never_none (meet stand is c.number.ensures.moved) (signed_decimal z) refl c.in_default.ensures.number) [ ];
 }
 
 pub returns : goal.returns

@@ -5,7 +5,7 @@ use Rattle.text.proofs.lexer.sort_at.Goals as goal
 
 pub returns-then-at-text : goal.returns-then-at-text
 returns-then-at-text c =
-    c.sort-by.ensures ∙ ap (λ (b : Bool). sort_of_byte (get_or c.args.text.now c.args.at 0) b) c.begins-with-digit.ensures
+    c.sort_by.ensures ∙ ap (λ (b : Bool). sort_of_byte (get_or c.args.text.now c.args.at 0) b) c.begins_with-digit.ensures
     ∙ sym (at_drop_more sort_of c.args.text.now c.args.at 0 (omega arith))
 
 pub returns-else-at-text : goal.returns-else-at-text

@@ -14,8 +14,8 @@ behind-place-requires c =
     let k = column_le t at in
     (omega arith, omega arith)
 
-pub invariant-of-self : goal.invariant-of-self
-invariant-of-self c =
+pub invariant_of-self : goal.invariant_of-self
+invariant_of-self c =
     let t = c.args.self.now.text.now in
     let at = c.args.self.now.at in
     let one = ap (λ (p : Place). past p (get_or t at 0)) c.args.self.now.placed in
