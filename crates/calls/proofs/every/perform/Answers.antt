@@ -12,9 +12,9 @@ loop-call-init g c = going_none _ _ _ _ _ _
 pub loop-call-preserved : goal.loop-call-preserved
 loop-call-preserved g c =
     let lt : c.loop-call.call-index < length c.loop-call.calls = omega arith in
-    going_more _ _ _ _ _ _ _ _ _ _ c.loop-call.invariant c.call-item.result c.perform-one.new.call (opening_of c.perform-one.new.trace)
-    (noted_of c.perform-one.new.trace) lt
-    c.perform-one.ensures.gives c.perform-one.ensures.keeps c.perform-one.ensures.noted c.perform-one.ensures.opening
+    going_more _ _ _ _ _ _ _ _ _ _ c.loop-call.invariant c.call-item.result c.perform_one.new.call (opening_of c.perform_one.new.trace)
+    (noted_of c.perform_one.new.trace) lt
+    c.perform_one.ensures.gives c.perform_one.ensures.keeps c.perform_one.ensures.noted c.perform_one.ensures.opening
 
 pub returns : goal.returns
 returns g c =

@@ -14,12 +14,12 @@ use Rattle.calls.proofs.Replayed.{when_void, when_open, granted}
 use Rattle.calls.proofs.Rising.{one_more}
 use Rattle.calls.proofs.replaying.replay.Goals as goal
 
-pub returns-then-is-some : goal.returns-then-is-some
-returns-then-is-some g c =
+pub returns-then-is_some : goal.returns-then-is_some
+returns-then-is_some g c =
     let t = c.args.trace.now in
     let m : Meaning = g.M.Monitor.meaning c.args.monitor.now in
     let ts : List ℕ = c.args.threads.now in
-    let void = sym (c.is-some.ensures ∙ ap is_some c.void.ensures) ∙ c.if-is-some.true in
+    let void = sym (c.is_some.ensures ∙ ap is_some c.void.ensures) ∙ c.if-is_some.true in
     let replays : Replays (opening_of t) (noted_of t) m ts (Err Void) = when_void (opening_of t) (noted_of t) m ts void in
     record {
       replays = replays;
@@ -32,7 +32,7 @@ returns g c =
     let t = c.args.trace.now in
     let m : Meaning = g.M.Monitor.meaning c.args.monitor.now in
     let ts : List ℕ = c.args.threads.now in
-    let valid = sym (c.is-some.ensures ∙ ap is_some c.void.ensures) ∙ c.if-is-some.false in
+    let valid = sym (c.is_some.ensures ∙ ap is_some c.void.ensures) ∙ c.if-is_some.false in
     let is = c.events.ensures.value in
     let made : MadeOf (noted_of t) c.make-tables.result
     = subst (λ (es : List Event). MadeOf es c.make-tables.result) is

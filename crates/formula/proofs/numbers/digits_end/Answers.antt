@@ -2,8 +2,8 @@ use Rattle.std.proofs.Common.{◌+◌, drop, sym, ap, ◌∙◌, arith}
 use Rattle.formula.proofs.Bytes.{digit_within, digits_more, digits-stop}
 use Rattle.formula.proofs.numbers.digits_end.Goals as goal
 
-pub overflow-add-end : goal.overflow-add-end
-overflow-add-end c = let h = digit_within c.args.text.now c.loop-end.end (sym c.loop-end-test.ensures) in omega arith
+pub overflow_add-end : goal.overflow_add-end
+overflow_add-end c = let h = digit_within c.args.text.now c.loop-end.end (sym c.loop-end-test.ensures) in omega arith
 
 pub loop-end-smaller : goal.loop-end-smaller
 loop-end-smaller c = let h = digit_within c.args.text.now c.loop-end.end (sym c.loop-end-test.ensures) in omega arith

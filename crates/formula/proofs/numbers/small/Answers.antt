@@ -1,8 +1,8 @@
 use Rattle.text.proofs.Numerals.{small_ok, small_err, small_utf8}
 use Rattle.formula.proofs.numbers.small.Goals as goal
 
-pub returns-in-default : goal.returns-in-default
-returns-in-default c n h e = elim (c.in-default.ensures.cases.0 (small_utf8 n c.args.part.now h e)) [ ]
+pub returns-in_default : goal.returns-in_default
+returns-in_default c n h e = elim (c.in_default.ensures.cases.0 (small_utf8 n c.args.part.now h e)) [ ]
 
 pub returns-in-Ok-parse : goal.returns-in-Ok-parse
 returns-in-Ok-parse c =

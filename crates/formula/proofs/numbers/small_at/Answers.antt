@@ -14,5 +14,5 @@ pub returns : goal.returns
 returns c n rest h stop e =
     let t = c.args.text.now in
     let k = c.args.from in
-    let at-end : c.digits-end-end.result ≡ k + length (decimal n) = c.digits-end-end.ensures ∙ ap (λ n. k + n) (ap digits e ∙ small_width n rest h stop) in
-    c.small.ensures n h (to_end t k c.digits-end-end.result (decimal n) rest e at-end) ∙ ap (small_number n) c.place-at-place.ensures
+    let at-end : c.digits_end-end.result ≡ k + length (decimal n) = c.digits_end-end.ensures ∙ ap (λ n. k + n) (ap digits e ∙ small_width n rest h stop) in
+    c.small.ensures n h (to_end t k c.digits_end-end.result (decimal n) rest e at-end) ∙ ap (small_number n) c.place_at-place.ensures

@@ -2,8 +2,8 @@ use Rattle.std.proofs.Common.{Ok, ap, ◌∙◌, to_z-of_z, w32, SFits, rules}
 use Rattle.text.proofs.Numerals.{wide_ok, wide_err, wide_utf8}
 use Rattle.formula.proofs.numbers.wide.Goals as goal
 
-pub returns-in-default : goal.returns-in-default
-returns-in-default c n h e = elim (c.in-default.ensures.cases.0 (wide_utf8 n c.args.part.now h e)) [ ]
+pub returns-in_default : goal.returns-in_default
+returns-in_default c n h e = elim (c.in_default.ensures.cases.0 (wide_utf8 n c.args.part.now h e)) [ ]
 
 pub returns-in-Ok-parse : goal.returns-in-Ok-parse
 returns-in-Ok-parse c z h e =

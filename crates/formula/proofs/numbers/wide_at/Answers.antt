@@ -15,5 +15,5 @@ pub returns : goal.returns
 returns c n rest h stop e =
     let t = c.args.text.now in
     let k = c.args.from in
-    let at-end : c.number-end-end.result ≡ k + length (signed_decimal n) = c.number-end-end.ensures ∙ ap (λ n. k + n) (ap number_width e ∙ wide_width n rest h stop) in
-    c.wide.ensures n h (to_end t k c.number-end-end.result (signed_decimal n) rest e at-end) ∙ ap (wide_number n) c.place-at-place.ensures
+    let at-end : c.number_end-end.result ≡ k + length (signed_decimal n) = c.number_end-end.ensures ∙ ap (λ n. k + n) (ap number_width e ∙ wide_width n rest h stop) in
+    c.wide.ensures n h (to_end t k c.number_end-end.result (signed_decimal n) rest e at-end) ∙ ap (wide_number n) c.place_at-place.ensures

@@ -9,8 +9,8 @@ pub unwrap-table-requires : goal.unwrap-table-requires
 unwrap-table-requires c =
     is_some c.args.text.now (length c.args.starts.now) c.in-Ok.spelling c.in-Ok.ensures.1 c.in-Ok.ensures.2 c.in-None.ensures c.compile.result c.compile.ensures.table
 
-pub invariant-of-result : goal.invariant-of-result
-invariant-of-result c =
+pub invariant_of-result : goal.invariant_of-result
+invariant_of-result c =
     let t = c.args.text.now in
     let v = length c.args.starts.now in
     let read = c.in-Ok.ensures in

@@ -8,6 +8,6 @@ pub returns-in-Some : goal.returns-in-Some
 returns-in-Some g c = (
   c.in-Some.row,
   c.in-Some.ensures,
-  c.path-back.ensures.labels
-      ∙ ap (λ (r : Result ℕ NoPath). written r (threads_to c.args.rows.now c.in-Some.row) c.args.threads.now) c.path-back.ensures.answer,
+  c.path_back.ensures.labels
+      ∙ ap (λ (r : Result ℕ NoPath). written r (threads_to c.args.rows.now c.in-Some.row) c.args.threads.now) c.path_back.ensures.answer,
 )

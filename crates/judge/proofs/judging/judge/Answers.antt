@@ -15,7 +15,7 @@ returns-then-not-explored g c =
           too_many (opening_of t) (noted_of t) (g.M.Monitor.meaning c.args.monitor.now) (recorded_of t noted) c.make-tables.result
           (made_of t noted c.events-events.result.now is c.make-tables.result c.make-tables.ensures) c.threads.result c.threads.ensures
           c.args.rows.now c.explore-explored.new.rows c.args.threads.now c.explore-explored.result.len c.explore-explored.result.complete
-          (granted_by t noted c.events-events.result.now is c.args.rows.now c.args.threads.now c.is-some.result (c.is-some.ensures ∙ ap is_some c.void.ensures) c.in-default.ensures)
+          (granted_by t noted c.events-events.result.now is c.args.rows.now c.args.threads.now c.is_some.result (c.is_some.ensures ∙ ap is_some c.void.ensures) c.in_default.ensures)
           c.explore-explored.ensures.within c.explore-explored.ensures.holds c.explore-explored.ensures.beyond c.explore-explored.auto.rows
           (not-true c.explore-explored.result.complete c.if-not-explored.true);
       none = tt;
@@ -32,7 +32,7 @@ returns g c =
     judged_as (opening_of t) (noted_of t) m (recorded_of t noted) c.make-tables.result
     (made_of t noted c.events-events.result.now is c.make-tables.result c.make-tables.ensures) c.threads.result c.threads.ensures
     c.args.rows.now c.explore-explored.new.rows c.args.threads.now c.explore-explored.result.len c.explore-explored.result.complete
-    (granted_by t noted c.events-events.result.now is c.args.rows.now c.args.threads.now c.is-some.result (c.is-some.ensures ∙ ap is_some c.void.ensures) c.in-default.ensures)
+    (granted_by t noted c.events-events.result.now is c.args.rows.now c.args.threads.now c.is_some.result (c.is_some.ensures ∙ ap is_some c.void.ensures) c.in_default.ensures)
     c.explore-explored.ensures.within c.explore-explored.ensures.holds c.explore-explored.ensures.beyond c.explore-explored.auto.rows
     (not-false c.explore-explored.result.complete c.if-not-explored.false) c.decide-verdict.result c.decide-verdict.new.threads
     (decided_by t noted c.events-events.result.now is m c.explore-explored.new.rows c.explore-explored.result.len c.args.threads.now c.decide-verdict.new.threads c.decide-verdict.result c.decide-verdict.ensures) in

@@ -5,11 +5,11 @@ use Rattle.mapping.proofs.Spots.{among_le, bases_next}
 use Rattle.mapping.proofs.places.bases.Goals as goal
 
 -- there are no more rows than events
-pub overflow-add-ahead : goal.overflow-add-ahead
-overflow-add-ahead c =
+pub overflow_add-ahead : goal.overflow_add-ahead
+overflow_add-ahead c =
     let es = c.args.events.now in
     let t = c.loop-t.t in
-    omega (arith, c.loop-t.invariant.1, c.counts-counts.ensures.counts t c.loop-t-test.true, among_le es (suc t) (length es), c.well-formed)
+    omega (arith, c.loop-t.invariant.1, c.counts-counts.ensures.counts t c.loop-t-test.true, among_le es (suc t) (length es), c.well_formed)
 
 pub loop-t-preserved : goal.loop-t-preserved
 loop-t-preserved c =

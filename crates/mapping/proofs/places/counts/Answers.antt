@@ -5,13 +5,13 @@ use Rattle.mapping.proofs.Spots.{among_le, counts_next}
 use Rattle.mapping.proofs.places.counts.Goals as goal
 
 -- a thread has no more events than there are
-pub overflow-add-counts : goal.overflow-add-counts
-overflow-add-counts c =
+pub overflow_add-counts : goal.overflow_add-counts
+overflow_add-counts c =
     let es = c.args.events.now in
     let k = c.loop-event.event-index in
     let t = thread_at es k in
     let u : t < 8 = c.requires.threads k c.loop-event-test.true in
-    omega (arith, c.loop-event.invariant.1 t u, among_le es (suc t) k, c.well-formed)
+    omega (arith, c.loop-event.invariant.1 t u, among_le es (suc t) k, c.well_formed)
 
 pub loop-event-preserved : goal.loop-event-preserved
 loop-event-preserved c =

@@ -14,7 +14,7 @@ clock-clock-requires c =
     let k = c.loop-k.k in
     let h = c.loop-k-test.true in
     let e = c.source-source.ensures in
-    let short : length es < 2 ^ 64 = omega (arith, c.well-formed) in
+    let short : length es < 2 ^ 64 = omega (arith, c.well_formed) in
     record {
       thread = c.requires.fit.threads k h;
       room = small es c.requires.fit k h c.loop-k.clocks c.loop-k.sources c.loop-k.rows c.args.rows.now c.loop-k.invariant;
@@ -27,14 +27,14 @@ clock-clock-requires c =
 pub position-at-requires : goal.position-at-requires
 position-at-requires c =
     let es = c.args.events.now in
-    let short : length es < 2 ^ 64 = omega (arith, c.well-formed) in
+    let short : length es < 2 ^ 64 = omega (arith, c.well_formed) in
     let x = stands_own es c.requires.fit c.loop-k.k c.loop-k-test.true c.loop-k.clocks c.loop-k.sources c.loop-k.rows c.args.rows.now c.loop-k.invariant c.bases-bases.result c.bases-bases.ensures.counts c.requires.room short in
     record { thread = x.thread; place = x.place; fits = x.fits }
 
 pub put-requires : goal.put-requires
 put-requires c =
     let es = c.args.events.now in
-    let short : length es < 2 ^ 64 = omega (arith, c.well-formed) in
+    let short : length es < 2 ^ 64 = omega (arith, c.well_formed) in
     let x = stands_own es c.requires.fit c.loop-k.k c.loop-k-test.true c.loop-k.clocks c.loop-k.sources c.loop-k.rows c.args.rows.now c.loop-k.invariant c.bases-bases.result c.bases-bases.ensures.counts c.requires.room short in
     let p = c.position-at.ensures in
     omega (arith, x.within, p, c.loop-k.auto.rows, c.requires.room, c.loop-k-test.true)
@@ -50,7 +50,7 @@ loop-k-preserved c =
     let d = c.clock-clock.result in
     let e = c.source-source.ensures in
     let event = get_or es k blank in
-    let short : length es < 2 ^ 64 = omega (arith, c.well-formed) in
+    let short : length es < 2 ^ 64 = omega (arith, c.well_formed) in
     let counts = subst (λ (p : ℕ × ℕ). (j : ℕ) → j < 8 → get_or d j 0 ≡ clock_for (get_or ts (thread_at es k) []) event p (standing bases p rows).clock j) e c.clock-clock.ensures.counts in
     let row = c.row.ensures ∙ ap (λ (p : ℕ × ℕ). row_for event p d) e in
     filled_next es c.requires.fit k h ts c.loop-k.sources rows c.args.rows.now c.loop-k.invariant bases c.bases-bases.ensures.counts c.requires.room short d c.clock-clock.ensures.wide counts

@@ -16,27 +16,27 @@ loop-i-init c = (refl, refl, begun _ _ _ c.requires)
 
 pub loop-i-preserved : goal.loop-i-preserved
 loop-i-preserved c =
-    let h = c.in-ok-note-line.ensures in
+    let h = c.in_ok-note_line.ensures in
     let w = c.loop-i.invariant.0 in
     let actions : List Action = c.args.actions.now in
     let P : Opening → Type 0 = λ o. Progress o actions (noted_of c.loop-i.trace) c.loop-i.i in
-    let Q : Opening → Type 0 = λ o. Progress o actions (noted_of c.note-line.new.trace) (c.loop-i.i + 1) in
+    let Q : Opening → Type 0 = λ o. Progress o actions (noted_of c.note_line.new.trace) (c.loop-i.i + 1) in
     let p : Progress (opening_of c.loop-i.trace) actions (noted_of c.loop-i.trace) c.loop-i.i = subst P (sym w) c.loop-i.invariant.2 in (
       h.opening ∙ w,
       h.loan ∙ c.loop-i.invariant.1,
-      subst Q w (noted_next (opening_of c.loop-i.trace) actions (noted_of c.loop-i.trace) (noted_of c.note-line.new.trace) c.loop-i.i _ _ p c.loop-i-test.true h.says h.noted),
+      subst Q w (noted_next (opening_of c.loop-i.trace) actions (noted_of c.loop-i.trace) (noted_of c.note_line.new.trace) c.loop-i.i _ _ p c.loop-i-test.true h.says h.noted),
     )
 
-pub returns-in-err-note-line : goal.returns-in-err-note-line
-returns-in-err-note-line c =
-    let h = c.in-err-note-line.ensures in
+pub returns-in_err-note_line : goal.returns-in_err-note_line
+returns-in_err-note_line c =
+    let h = c.in_err-note_line.ensures in
     let w = c.loop-i.invariant.0 in
     let actions : List Action = c.args.actions.now in
     let P : Opening → Type 0 = λ o. Progress o actions (noted_of c.loop-i.trace) c.loop-i.i in
     let p : Progress (opening_of c.loop-i.trace) actions (noted_of c.loop-i.trace) c.loop-i.i = subst P (sym w) c.loop-i.invariant.2 in
-    let f = err_from_is_err_and c.from-residual.result c.from-residual.ensures.1 in
-    let s = stuck (opening_of c.loop-i.trace) actions (noted_of c.loop-i.trace) (noted_of c.note-line.new.trace) c.loop-i.i _ _ p c.loop-i-test.true h.says h.noted in
-    let Q : Opening → Type 0 = λ o. Stuck o actions (noted_of c.note-line.new.trace) c.loop-i.i s.0 in
+    let f = err_from_is_err_and c.from_residual.result c.from_residual.ensures.1 in
+    let s = stuck (opening_of c.loop-i.trace) actions (noted_of c.loop-i.trace) (noted_of c.note_line.new.trace) c.loop-i.i _ _ p c.loop-i-test.true h.says h.noted in
+    let Q : Opening → Type 0 = λ o. Stuck o actions (noted_of c.note_line.new.trace) c.loop-i.i s.0 in
     rw (f.1, f.2)
     record {
       notes = (c.loop-i.i, s.0, subst Q w s.1, s.2);

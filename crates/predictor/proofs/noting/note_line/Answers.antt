@@ -20,7 +20,7 @@ returns c =
     in
     let q : P act.value = subst P (to_z-of_z w32 act.value fits) (c.note-answer.ensures.says, c.note-answer.ensures.noted) in
     record {
-      says = c.at-line.ensures ∙ ap (λ (r : Result ℕ Refusal). placed r c.args.line) q.0;
+      says = c.at_line.ensures ∙ ap (λ (r : Result ℕ Refusal). placed r c.args.line) q.0;
       noted = q.1;
       opening = c.note-answer.ensures.opening;
       loan = c.note-answer.ensures.loan;

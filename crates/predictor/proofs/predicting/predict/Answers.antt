@@ -17,58 +17,58 @@ use Rattle.predictor.proofs.predicting.predict.Goals as goal
 silent : (t : List ℕ) (room : ℕ) (r : Result Prediction Stop) (s : Stop) (list : List ℕ) → r ≡ Err s → TellsRule t room r list
 silent t room r s list e = let P : Result Prediction Stop → Type 0 = λ x. TellsRule t room x list in subst P (sym e) tt
 
-pub returns-in-err-recording : goal.returns-in-err-recording
-returns-in-err-recording c =
-    let p = err_from_is_err_and c.from-residual.result c.from-residual.ensures.1 in
+pub returns-in_err-recording : goal.returns-in_err-recording
+returns-in_err-recording c =
+    let p = err_from_is_err_and c.from_residual.result c.from_residual.ensures.1 in
     record {
-      predicted = stopped_reading c.args.text.now (length c.args.rows.now) c.args.pairs.now c.args.threads.now _ _ p.0 p.1 p.2 c.in-err-recording.ensures;
+      predicted = stopped_reading c.args.text.now (length c.args.rows.now) c.args.pairs.now c.args.threads.now _ _ p.0 p.1 p.2 c.in_err-recording.ensures;
       rule = silent c.args.text.now (length c.args.rows.now) _ p.0 _ p.1;
     }
 
-pub returns-in-err-opened : goal.returns-in-err-opened
-returns-in-err-opened c =
-    let p = err_from_is_err_and c.from-residual-in-err-opened.result c.from-residual-in-err-opened.ensures.1 in
-    let asked = c.open-trace.ensures.opening ∙ ap (λ (vs : List ℤ). opened c.in-ok-recording.recording.threads vs (length c.args.rows.now)) c.deref.ensures.value in
+pub returns-in_err-opened : goal.returns-in_err-opened
+returns-in_err-opened c =
+    let p = err_from_is_err_and c.from_residual-in_err-opened.result c.from_residual-in_err-opened.ensures.1 in
+    let asked = c.open-trace.ensures.opening ∙ ap (λ (vs : List ℤ). opened c.in_ok-recording.recording.threads vs (length c.args.rows.now)) c.deref.ensures.value in
     record {
       predicted =
           stopped_opening c.args.text.now (length c.args.rows.now) c.args.pairs.now c.args.threads.now
-          c.in-ok-recording.recording c.in-ok-recording.ensures
-          (opening_of c.open-trace.result) asked _ p.0 _ p.1 p.2 c.in-err-opened.ensures;
+          c.in_ok-recording.recording c.in_ok-recording.ensures
+          (opening_of c.open-trace.result) asked _ p.0 _ p.1 p.2 c.in_err-opened.ensures;
       rule = silent c.args.text.now (length c.args.rows.now) _ p.0 _ p.1;
     }
 
-pub returns-in-err-note-all : goal.returns-in-err-note-all
-returns-in-err-note-all c =
-    let p = err_from_is_err_and c.from-residual-in-err-note-all.result c.from-residual-in-err-note-all.ensures.1 in
-    let asked = c.open-trace.ensures.opening ∙ ap (λ (vs : List ℤ). opened c.in-ok-recording.recording.threads vs (length c.args.rows.now)) c.deref.ensures.value in
-    let Q : List Action → Type 0 = λ acts. NotesAll (opening_of c.open-trace.result) acts (Err c.in-err-note-all.field-0.0) (noted_of c.note-all.new.trace) in
+pub returns-in_err-note_all : goal.returns-in_err-note_all
+returns-in_err-note_all c =
+    let p = err_from_is_err_and c.from_residual-in_err-note_all.result c.from_residual-in_err-note_all.ensures.1 in
+    let asked = c.open-trace.ensures.opening ∙ ap (λ (vs : List ℤ). opened c.in_ok-recording.recording.threads vs (length c.args.rows.now)) c.deref.ensures.value in
+    let Q : List Action → Type 0 = λ acts. NotesAll (opening_of c.open-trace.result) acts (Err c.in_err-note_all.field-0.0) (noted_of c.note_all.new.trace) in
     record {
       predicted =
           stopped_noting c.args.text.now (length c.args.rows.now) c.args.pairs.now c.args.threads.now
-          c.in-ok-recording.recording c.in-ok-recording.ensures
-          (opening_of c.open-trace.result) asked c.in-ok-opened.field-0 c.in-ok-opened.ensures _ p.0 _ (noted_of c.note-all.new.trace) p.1 p.2
-          (subst Q c.deref-2.ensures.value c.in-err-note-all.ensures.notes);
+          c.in_ok-recording.recording c.in_ok-recording.ensures
+          (opening_of c.open-trace.result) asked c.in_ok-opened.field-0 c.in_ok-opened.ensures _ p.0 _ (noted_of c.note_all.new.trace) p.1 p.2
+          (subst Q c.deref-2.ensures.value c.in_err-note_all.ensures.notes);
       rule = silent c.args.text.now (length c.args.rows.now) _ p.0 _ p.1;
     }
 
-pub returns-in-err-judged : goal.returns-in-err-judged
-returns-in-err-judged c =
-    let p = err_from_is_err_and c.from-residual-in-err-judged.result c.from-residual-in-err-judged.ensures.1 in
+pub returns-in_err-judged : goal.returns-in_err-judged
+returns-in_err-judged c =
+    let p = err_from_is_err_and c.from_residual-in_err-judged.result c.from_residual-in_err-judged.ensures.1 in
     let t = c.args.text.now in
     let room = length c.args.rows.now in
-    let rec = c.in-ok-recording.recording in
-    let h = c.in-ok-recording.ensures in
+    let rec = c.in_ok-recording.recording in
+    let h = c.in_ok-recording.ensures in
     let o : Opening = opening_of c.open-trace.result in
     let asked = c.open-trace.ensures.opening ∙ ap (λ (vs : List ℤ). opened rec.threads vs room) c.deref.ensures.value in
-    let es : List Event = noted_of c.note-all.new.trace in
+    let es : List Event = noted_of c.note_all.new.trace in
     let Q : List Action → Type 0 = λ acts. Whole o acts es in
-    let whole = subst Q c.deref-2.ensures.value c.in-ok-note-all.ensures.notes in
-    let free = c.in-ok-opened.ensures in
-    let u = c.in-ok-opened.field-0 in
-    let v = ruled t room c.args.pairs.now c.args.threads.now rec h o asked u free es whole (opening_of c.note-all.new.trace) (Err c.in-err-judged.field-0.0) c.judge-rule.new.pairs c.judge-rule.new.threads
-    c.in-ok-note-all.ensures.opening c.in-err-judged.ensures in
+    let whole = subst Q c.deref-2.ensures.value c.in_ok-note_all.ensures.notes in
+    let free = c.in_ok-opened.ensures in
+    let u = c.in_ok-opened.field-0 in
+    let v = ruled t room c.args.pairs.now c.args.threads.now rec h o asked u free es whole (opening_of c.note_all.new.trace) (Err c.in_err-judged.field-0.0) c.judge_rule.new.pairs c.judge_rule.new.threads
+    c.in_ok-note_all.ensures.opening c.in_err-judged.ensures in
     record {
-      predicted = stopped_ruling t room c.args.pairs.now c.args.threads.now rec h o asked u free es whole _ p.0 _ c.judge-rule.new.pairs c.judge-rule.new.threads p.1 p.2 v;
+      predicted = stopped_ruling t room c.args.pairs.now c.args.threads.now rec h o asked u free es whole _ p.0 _ c.judge_rule.new.pairs c.judge_rule.new.threads p.1 p.2 v;
       rule = silent t room _ p.0 _ p.1;
     }
 
@@ -76,23 +76,23 @@ pub returns : goal.returns
 returns c =
     let t = c.args.text.now in
     let room = length c.args.rows.now in
-    let rec = c.in-ok-recording.recording in
-    let h = c.in-ok-recording.ensures in
+    let rec = c.in_ok-recording.recording in
+    let h = c.in_ok-recording.ensures in
     let o : Opening = opening_of c.open-trace.result in
     let asked = c.open-trace.ensures.opening ∙ ap (λ (vs : List ℤ). opened rec.threads vs room) c.deref.ensures.value in
-    let es : List Event = noted_of c.note-all.new.trace in
+    let es : List Event = noted_of c.note_all.new.trace in
     let Q : List Action → Type 0 = λ acts. Whole o acts es in
-    let whole = subst Q c.deref-2.ensures.value c.in-ok-note-all.ensures.notes in
-    let free = c.in-ok-opened.ensures in
-    let u = c.in-ok-opened.field-0 in
+    let whole = subst Q c.deref-2.ensures.value c.in_ok-note_all.ensures.notes in
+    let free = c.in_ok-opened.ensures in
+    let u = c.in_ok-opened.field-0 in
     let pairs = c.args.pairs.now in
     let threads = c.args.threads.now in
-    let v = ruled t room pairs threads rec h o asked u free es whole (opening_of c.note-all.new.trace) (Ok c.in-ok-judged.judged) c.judge-rule.new.pairs c.judge-rule.new.threads
-    c.in-ok-note-all.ensures.opening c.in-ok-judged.ensures in
-    let p : Prediction = record { verdict = c.in-ok-judged.judged.verdict; pairs = c.in-ok-judged.judged.pairs; events = c.len-events.result } in
+    let v = ruled t room pairs threads rec h o asked u free es whole (opening_of c.note_all.new.trace) (Ok c.in_ok-judged.judged) c.judge_rule.new.pairs c.judge_rule.new.threads
+    c.in_ok-note_all.ensures.opening c.in_ok-judged.ensures in
+    let p : Prediction = record { verdict = c.in_ok-judged.judged.verdict; pairs = c.in_ok-judged.judged.pairs; events = c.len-events.result } in
     let r = ready t room pairs threads rec h o asked u free es whole in
     let n = counted t room pairs threads rec h o asked u free es whole _ (c.len-events.ensures ∙ rec.actions.ok.0) in
     record {
       predicted = (spelled t room pairs threads rec h o asked, es, r, n, (rec.rule_place, v));
-      rule = (spelled t room pairs threads rec h o asked, es, r, told t room (spelled t room pairs threads rec h o asked) es p rec.rule_place pairs c.judge-rule.new.pairs threads c.judge-rule.new.threads r v);
+      rule = (spelled t room pairs threads rec h o asked, es, r, told t room (spelled t room pairs threads rec h o asked) es p rec.rule_place pairs c.judge_rule.new.pairs threads c.judge_rule.new.threads r v);
     }
