@@ -12,11 +12,11 @@ behind-place-requires c =
     let column = ap (λ (p : Place). p.column) c.args.self.now.placed in
     let l = line_le t at in
     let k = column_le t at in
-    (omega arith, omega arith)
+    record { line_bound = omega arith; column_bound = omega arith }
 
 pub invariant_of-self : goal.invariant_of-self
 invariant_of-self c =
     let t = c.args.self.now.text.now in
     let at = c.args.self.now.at in
     let one = ap (λ (p : Place). past p (get_or t at 0)) c.args.self.now.placed in
-    (omega arith, (c.behind-place.ensures ∙ one ∙ place_more t at c.requires, tt))
+    record { within = omega arith; placed = c.behind-place.ensures ∙ one ∙ place_more t at c.requires }
