@@ -16,7 +16,7 @@ pub fn replay<M: Monitor>(
     threads: &[u8],
     monitor: &M,
 ) -> Result<Verdict, ReplayRefusal>
-    ensures { (es : List Event) → MadeOf es tables.now → ThreadsBelow es count → Outcome (meaning monitor.now) es count threads.now result }
+    ensures { (es : List Event) → MadeOf es tables.now → ThreadsBelow es count → Outcome (M.Monitor.meaning monitor.now) es count threads.now result }
 {
     if threads.len() != tables.total() {
         return Err(ReplayRefusal::Length);

@@ -75,7 +75,7 @@ returns-then-threads-total g c = λ es made few.
     (λ e. c.if-threads-total.true (e ∙ sym made.total ∙ sym c.total.ensures))
 
 pub loop-k-init : goal.loop-k-init
-loop-k-init g c = (λ es made. ([], subst (Reach es []) (sym cut_start) start, refl, c.start_code.ensures), refl)
+loop-k-init g c = (λ es made. ([], subst (Reach es []) (sym cut_start) start, refl, c.start-code.ensures), refl)
 
 pub returns-then-thread-count : goal.returns-then-thread-count
 returns-then-thread-count g c = λ es made few.
