@@ -25,7 +25,7 @@ loop-i-preserved c =
 pub returns-then-ends-len : goal.returns-then-ends-len
 returns-then-ends-len c =
     let g = c.loop-i.invariant.2 0 (omega arith) (omega arith) in
-    let same : size g.form ≡ length c.args.words.now = omega (arith, g.ends-at, c.if-ends-len.true) in
+    let same : size g.form ≡ length c.args.words.now = omega (arith, g.ends_at, c.if-ends-len.true) in
     record { table = (omega arith, (g.form, (g.spelt, same), record { numbered = g.numbered; all = sym same })); one = one_formula c.args.words.now }
 
 pub returns-then-words-eq0 : goal.returns-then-words-eq0
@@ -51,6 +51,6 @@ returns-else-ends-len c =
       table = λ few f s.
           let g = c.loop-i.invariant.2 0 (omega arith) (omega arith) in
           let same = same_size ws 0 f g.form s.0 g.spelt in
-          c.if-ends-len.false (omega (arith, g.ends-at, same, s.1));
+          c.if-ends-len.false (omega (arith, g.ends_at, same, s.1));
       one = one_formula ws;
     }

@@ -19,7 +19,12 @@ invariant_of-result c =
     let told = c.in-None.ensures legal.0 sp in
     let x = c.unwrap-table.result in
     let tab = tabled t v c.in-Ok.spelling legal read.2 c.in-None.ensures c.compile.result c.compile.ensures.table x c.unwrap-table.ensures legal.0 legal.1 legal.2 in
-    (omega (arith, tab.all, size_pos legal.0), (omega (arith, tab.all, told.0), (omega arith, (sound_from v x.len x.nodes legal.0 tab told.1, tt))))
+    record {
+      some = omega (arith, tab.all, size_pos legal.0);
+      few = omega (arith, tab.all, told.0);
+      known = omega arith;
+      sound = sound_from v x.len x.nodes legal.0 tab told.1;
+    }
 
 pub returns-in-None : goal.returns-in-None
 returns-in-None c =
