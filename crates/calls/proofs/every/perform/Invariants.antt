@@ -1,5 +1,5 @@
 use Rattle.trace.specs.Meaning.{opening_of, noted_of}
-use Rattle.calls.specs.Asked.{asked, goal as gave, kept}
+use Rattle.calls.specs.Asked.{asked, given as gave, kept}
 use Rattle.calls.proofs.Going.{Going}
 use Rattle.calls.proofs.every.perform.Given as goal
 
