@@ -3,26 +3,13 @@
 
 use events::Event;
 use judge::{SearchRow, Verdict};
-use predictor::{Fault, Prediction, Stop};
+use predictor::{Prediction, Stop};
 use std::io;
 use std::io::Read;
+use std::process::ExitCode;
 
 // The longest text that is read, and one byte more, by which a longer one is known.
 const LONGEST: u64 = 60001;
-
-// Why the program ends with status 1.
-#[derive(Drop)]
-pub enum Ended {
-    Io(io::Error),
-    Refused(Fault),
-    Memory,
-}
-
-impl From<io::Error> for Ended {
-    fn from(e: io::Error) -> Ended {
-        Ended::Io(e)
-    }
-}
 
 // The verdict, the number of pairs and, where an order of the events breaks the rule, the threads
 // of the first such order.
@@ -46,7 +33,8 @@ fn print(rt: &HostRuntime, prediction: Prediction, threads: &[u8]) -> io::Result
     }
 }
 
-fn main(rt: HostRuntime) -> Result<(), Ended> {
+// Status 0 after a verdict, and 1 after a fault, without memory, and after a failed read or write.
+fn main(rt: HostRuntime) -> io::Result<ExitCode> {
     let mut rows = [Event::BLANK; 1024];
     let mut pairs = [SearchRow::BLANK; 2048];
     let mut threads = [0u8; 1024];
@@ -55,15 +43,15 @@ fn main(rt: HostRuntime) -> Result<(), Ended> {
     match predictor::predict(rt.alloc(), &text, &mut rows, &mut pairs, &mut threads) {
         Ok(prediction) => {
             print(&rt, prediction, &threads)?;
-            Ok(())
+            Ok(ExitCode::SUCCESS)
         }
         Err(Stop::Faulty(fault)) => {
             println!(rt; "{fault}")?;
-            Err(Ended::Refused(fault))
+            Ok(ExitCode::FAILURE)
         }
         Err(Stop::Memory) => {
             eprintln!(rt; "out of memory")?;
-            Err(Ended::Memory)
+            Ok(ExitCode::FAILURE)
         }
     }
 }
