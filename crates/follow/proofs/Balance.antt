@@ -1,8 +1,8 @@
 -- The balance of a variable or a lock in a cut that a path reaches.
-use Rattle.std.proofs.Common.{◌≡◌, ℕ, zero, suc, ◌+◌, ◌<◌, ◌≤◌, ◌⊎◌, List, length, sym, refl, ap, ◌∙◌, subst, inl, inr, arith}
+use Rattle.std.proofs.Common.{◌≡◌, ℕ, ◌+◌, ◌<◌, ◌≤◌, ◌⊎◌, List, length, sym, refl, ap, ◌∙◌, subst, inl, inr, arith}
 use Rattle.events.specs.declared.event.Event.{Event}
-use Rattle.order.specs.Trace.{thread_at, place_at, Is, Reads, Releases}
-use Rattle.order.specs.Before.{Feeds, Before}
+use Rattle.order.specs.Trace.{thread_at, place_at, Is}
+use Rattle.order.specs.Before.{Feeds}
 use Rattle.order.specs.Before.Before.{fed}
 use Rattle.order.specs.Groups.{Member}
 use Rattle.order.specs.Groups.Group.{starting}
@@ -12,8 +12,8 @@ use Rattle.order.specs.Clocks.{Number}
 use Rattle.order.specs.Waiting.{Begun, Waiting, Waits}
 use Rattle.order.proofs.Decided.{feeds_noted}
 use Rattle.order.proofs.Feeders.{reads_from, release_from, one_feeder, no_feeder}
-use Rattle.std.proofs.lemmas.Bool.{cases_lt, cases_eq, cases_order}
-use Rattle.follow.specs.Balance.{LedBy, TakenBy, Starts, Led, Taken, Starting, over_threads, Follower, Reached, ThreadsBelow, BalanceLaw}
+use Rattle.std.proofs.lemmas.Bool.{cases_lt}
+use Rattle.follow.specs.Balance.{LedBy, TakenBy, Starts, Led, Taken, Starting, over_threads, Follower, ThreadsBelow, BalanceLaw}
 use Rattle.order.proofs.Closed.{Closed}
 use Rattle.order.proofs.Fair.{fair}
 use Rattle.follow.proofs.Counting.{Inside, number_like, number_once, number_sum, number_threads, number_inside}

@@ -1,9 +1,8 @@
 -- What the tables hold when the first events of a noted list are taken in.
-use Rattle.std.proofs.Common.{◌≡◌, ℕ, zero, suc, ◌+◌, ◌*◌, ◌%◌, ◌^◌, ◌<◌, ◌≤◌, cond, ltb, ◌≢◌, ◌⊎◌, List, length, get_or, set, replicate, sym, refl, ap, ◌∙◌, subst, inl, inr, mod-eq_of_lt, arith, length-set, get_or-set_other, get_or-set_same}
+use Rattle.std.proofs.Common.{◌≡◌, ℕ, suc, ◌+◌, ◌%◌, ◌^◌, ◌<◌, ◌≤◌, cond, ◌⊎◌, List, length, get_or, set, replicate, sym, refl, ap, ◌∙◌, subst, inl, inr, mod-eq_of_lt, arith, length-set, get_or-set_other, get_or-set_same}
 use lib.ListN.{length-replicate, get_or-replicate}
 use Rattle.events.specs.declared.event.Event.{Event}
-use Rattle.order.specs.Trace.{blank, thread_at, place_at, kind_at, subject_at, Is, Reads, Writes, Acquires, Releases, Of}
-use Rattle.order.specs.Trace.Object.{lock}
+use Rattle.order.specs.Trace.{blank, thread_at, place_at, kind_at, subject_at, Is, Reads, Writes, Acquires, Releases}
 use Rattle.order.specs.Before.{NoneBetween, Feeds}
 use Rattle.order.specs.Before.Feeds.{value, hold}
 use Rattle.order.specs.Sound.{count, Sound}

@@ -1,8 +1,7 @@
 -- The look-ups answer what may follow.
-use Rattle.std.proofs.Common.{◌≡◌, ℕ, zero, suc, ◌+◌, ◌<◌, ◌≤◌, Bool, true, false, not, eqb, ◌⊎◌, List, length, get_or, sym, refl, ap, ◌∙◌, subst, inl, inr, arith}
+use Rattle.std.proofs.Common.{◌≡◌, ℕ, suc, ◌+◌, ◌<◌, ◌≤◌, Bool, true, false, ◌⊎◌, List, length, get_or, sym, refl, ap, ◌∙◌, subst, inl, inr, arith}
 use Rattle.events.specs.declared.event.Event.{Event}
-use Rattle.order.specs.Trace.{blank, thread_at, place_at, kind_at, subject_at, Is, Writes, Acquires}
-use Rattle.order.specs.Before.{Feeds}
+use Rattle.order.specs.Trace.{blank, thread_at, place_at, kind_at, subject_at, Writes, Acquires}
 use Rattle.order.specs.Cuts.{Cut, In, MayFollow}
 use Rattle.order.specs.Sound.{count}
 use Rattle.order.specs.Maps.{Source}
@@ -18,7 +17,7 @@ use Rattle.follow.specs.declared.role.Role.TheVariants.{Lead, Take, Apart}
 use Rattle.follow.specs.declared.tables.Tables.{Tables}
 use Rattle.follow.specs.Balance.{Reached, Follower, over_threads}
 use Rattle.follow.specs.Roles.{Takes, LeadsOf, RoleOf}
-use Rattle.follow.specs.Made.{slot_of, cell_of, MadeOf}
+use Rattle.follow.specs.Made.{slot_of, MadeOf}
 use Rattle.follow.specs.Looking.{led_in, taken_in, unbalanced, BlockedAs, BlockedBy}
 use Rattle.follow.proofs.Balance.{none_waits, one_waits}
 

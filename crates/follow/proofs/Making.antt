@@ -1,16 +1,14 @@
 -- The tables of a noted list, summed up.
-use Rattle.std.proofs.Common.{◌≡◌, ℕ, zero, suc, ◌+◌, ◌%◌, ◌^◌, ◌<◌, ◌≤◌, ◌⊎◌, List, length, get_or, sym, refl, ap, ◌∙◌, subst, inl, inr, mod-eq_of_lt, arith}
+use Rattle.std.proofs.Common.{◌≡◌, ℕ, zero, suc, ◌+◌, ◌^◌, ◌<◌, ◌≤◌, ◌⊎◌, List, length, get_or, sym, ap, ◌∙◌, subst, inl, inr, mod-eq_of_lt, arith}
 use Rattle.events.specs.declared.event.Event.{Event}
 use Rattle.events.specs.Noting.{Opening, subjects, Noted}
-use Rattle.order.specs.Trace.{blank, thread_at, place_at, kind_at, subject_at, Is}
-use Rattle.order.specs.Before.{Feeds}
+use Rattle.order.specs.Trace.{blank, thread_at, place_at, subject_at}
 use Rattle.order.specs.Clocks.{Number}
 use Rattle.order.proofs.Feeders.{one_feeder}
 use Rattle.order.proofs.Noting.{sound_of, within_of}
 use Rattle.std.proofs.lemmas.Bool.{cases_lt}
 use Rattle.follow.specs.declared.tables.Tables.{Tables}
 use Rattle.follow.specs.Balance.{LedBy, TakenBy}
-use Rattle.follow.specs.Roles.{Takes}
 use Rattle.follow.specs.Made.{slot_of, cell_of, MadeOf, Small}
 use Rattle.follow.specs.Filling.{Summed}
 use Rattle.follow.proofs.Counting.{number_like, number_le, number_sum}

@@ -1,7 +1,7 @@
 -- At most one answer is right.
-use Rattle.std.proofs.Common.{◌≡◌, ℕ, suc, ◌<◌, ◌≤◌, ◌⊎◌, List, length, get_or, sym, refl, ap, ◌∙◌, subst, inl, inr, arith}
+use Rattle.std.proofs.Common.{◌≡◌, ℕ, suc, List, get_or, sym, refl, ap, ◌∙◌, subst}
 use Rattle.events.specs.declared.event.Event.{Event}
-use Rattle.order.specs.Trace.{blank, thread_at, place_at}
+use Rattle.order.specs.Trace.{blank, thread_at}
 use Rattle.order.specs.Cuts.{Cut, MayFollow}
 use Rattle.order.specs.Sound.{Sound}
 use Rattle.order.specs.Waiting.{HasNext, Missing, Blocked}

@@ -1,5 +1,5 @@
 -- What the look-ups add up.
-use Rattle.std.specs.Prelude.{◌≡◌, ℕ, suc, ◌+◌, ◌<◌, Bool, true, false, cond, not, ◌&&◌, ◌||◌, List, ◌==◌, nat_le, nat_lt, slice_index, slice_index_or}
+use Rattle.std.specs.Prelude.{◌≡◌, ℕ, suc, ◌+◌, ◌<◌, Bool, false, cond, not, ◌&&◌, ◌||◌, List, ◌==◌, nat_le, nat_lt, slice_index, slice_index_or}
 use Rattle.events.specs.declared.event.Event.{Event}
 use Rattle.order.specs.Trace.{blank}
 use Rattle.follow.specs.declared.answer.Follow.{Follow}

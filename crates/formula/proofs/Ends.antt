@@ -1,16 +1,16 @@
 -- The whole code after an event, and at the start.
-use Rattle.std.proofs.Common.{◌≡◌, ℕ, zero, suc, ◌+◌, ◌-◌, ◌^◌, ◌<◌, ◌≤◌, Bool, true, false, cond, not, ◌&&◌, ◌||◌, eqb, ltb, leb, ◌⊎◌, List, take, ℤ, pos, sym, refl, ap, ◌∙◌, inl, inr, arith, get_or-take}
+use Rattle.std.proofs.Common.{◌≡◌, ℕ, zero, suc, ◌+◌, ◌^◌, ◌<◌, ◌≤◌, Bool, true, false, cond, not, ◌&&◌, ◌||◌, eqb, ltb, leb, ◌⊎◌, List, take, ℤ, pos, sym, refl, ap, ◌∙◌, inl, inr, arith, get_or-take}
 use mathlib.Core.Bool.{or-false, and-true, and-false}
 use lib.Bits.{bit_or}
 use lib.Signed.{lt_z}
-use Rattle.std.proofs.lemmas.Bool.{cases_lt, cases_order, lt-leb, le-leb, lt-ltb, le-ltb, eq-eqb, ne_eqb}
+use Rattle.std.proofs.lemmas.Bool.{cases_lt, cases_order, le-leb, lt-ltb, le-ltb, eq-eqb, ne_eqb}
 use Rattle.codes.specs.Codes.{bit_of, code_of}
 use Rattle.codes.proofs.Codes.{code_lt, code_ext, code_none, code_bits, or_code, only_code, bit_code}
 use Rattle.events.specs.declared.event.Action.{Action}
 use Rattle.formula.specs.declared.node.Node.{Node}
 use Rattle.formula.specs.declared.node.Node.TheVariants.{Eq, Lt, Gt, Mark, By, Not, Before, Once, Always, And, Or, Implies, Since}
 use Rattle.formula.specs.Table.{node_at, Inside, Sound}
-use Rattle.formula.specs.Step.{truth, eval, bits, stepped, Turn, eq_z, initial, started}
+use Rattle.formula.specs.Step.{eval, bits, stepped, Turn, eq_z, initial}
 use Rattle.formula.proofs.Evals.{from, inside_parts, truth_ext, eval_fix}
 
 -- the flag: whether the code after the event is bad

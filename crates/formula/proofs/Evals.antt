@@ -1,5 +1,5 @@
 -- The truths of a table after an event.
-use Rattle.std.proofs.Common.{◌≡◌, ℕ, zero, suc, ◌+◌, ◌-◌, ◌^◌, ◌<◌, ◌≤◌, Bool, true, false, cond, not, ◌&&◌, ◌||◌, eqb, ltb, leb, ◌⊎◌, List, sym, refl, ap, ◌∙◌, inl, inr, arith}
+use Rattle.std.proofs.Common.{◌≡◌, ℕ, zero, suc, ◌+◌, ◌-◌, ◌^◌, ◌<◌, ◌≤◌, Bool, true, false, not, ◌&&◌, ◌||◌, eqb, ltb, leb, ◌⊎◌, List, sym, refl, ap, ◌∙◌, inl, inr, arith}
 use mathlib.Core.Bool.{or-false, and-true, and-false}
 use lib.Bits.{bit_or}
 use Rattle.std.proofs.lemmas.Bool.{ltb-true, and_parts, cases_order, lt-leb, le-leb, lt-ltb, eq-eqb, ne_eqb}
@@ -10,7 +10,7 @@ use Rattle.events.specs.declared.event.Action.{Action}
 use Rattle.formula.specs.declared.node.Node.{Node}
 use Rattle.formula.specs.declared.node.Node.TheVariants.{Eq, Lt, Gt, Mark, By, Not, And, Or, Implies, Before, Once, Always, Since}
 use Rattle.formula.specs.Table.{node_at, Inside, inside, between, Sound}
-use Rattle.formula.specs.Step.{truth, eval, bits, stepped, Turn}
+use Rattle.formula.specs.Step.{truth, eval}
 
 -- the code of one bit, where it has a place
 pub only_power : (s : ℕ) → s < 64 → onlyBit s ≡ 2 ^ s

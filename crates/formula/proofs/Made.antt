@@ -1,15 +1,14 @@
 -- From the words of a text to the table of the formula that it spells.
-use Rattle.std.proofs.Common.{◌≡◌, ℕ, zero, suc, ◌+◌, ◌-◌, ◌<◌, ◌≤◌, min, true, false, List, [], length, get_or, take, ℤ, is_some as option_is_some, Some, None, Option, sym, refl, ap, ◌∙◌, subst, arith, length-take, get_or-take}
+use Rattle.std.proofs.Common.{◌≡◌, ℕ, ◌≤◌, true, List, [], length, take, is_some as option_is_some, Some, None, Option, sym, refl, ◌∙◌, subst, arith, length-take, get_or-take}
 use Rattle.grammar.specs.Recording.{Formula, Nests, LegalRule, flat, formula}
 use Rattle.formula.specs.declared.node.Table.{Table}
 use Rattle.formula.specs.declared.spelling.Spelling.{Spelling}
 use Rattle.formula.specs.declared.word.Word.{Word}
-use Rattle.formula.specs.Reading.{word_of}
 use Rattle.formula.specs.Spelling.{Spelt}
 use Rattle.formula.specs.Suiting.{Suited}
 use Rattle.formula.specs.Table.{Tabled}
-use Rattle.formula.specs.Truth.{subformulas, size}
-use Rattle.formula.specs.Words.{word_at, no_word, Spell, CompiledTo}
+use Rattle.formula.specs.Truth.{size}
+use Rattle.formula.specs.Words.{no_word, Spell, CompiledTo}
 use Rattle.formula.proofs.Rows.{spells_words}
 use Rattle.formula.proofs.Views.{one_spelt}
 

@@ -1,7 +1,7 @@
 -- The brackets of a text, gone through from the left.
-use Rattle.std.proofs.Common.{◌≡◌, ℕ, zero, suc, ◌+◌, ◌-◌, ◌^◌, ◌<◌, ◌≤◌, Bool, true, false, cond, eqb, ltb, leb, ◌≢◌, ◌⊎◌, List, [], ◌∷◌, ◌++◌, map, length, get_or, drop, set, ℤ, pos, Some, None, Ok, Err, decimal, Option, Result, sym, refl, ap, ◌∙◌, subst, inl, inr, ⊎_elim, append_assoc, arith, length-append, length-set, get_or-set_other, get_or-set_same}
+use Rattle.std.proofs.Common.{◌≡◌, ℕ, zero, suc, ◌+◌, ◌^◌, ◌<◌, ◌≤◌, Bool, true, false, cond, ltb, leb, ◌≢◌, List, [], ◌∷◌, ◌++◌, map, length, get_or, drop, set, ℤ, pos, Some, None, Ok, Err, decimal, Option, sym, refl, ap, ◌∙◌, subst, ⊎_elim, append_assoc, arith, length-append, length-set, get_or-set_other, get_or-set_same}
 use lib.Signed.{mag}
-use Rattle.std.proofs.lemmas.List.{append-nil, at_drop_more, at_drop_all, length-map, get_or-map, get_or_append_left, get_or-append_right, get_or_push}
+use Rattle.std.proofs.lemmas.List.{append-nil, at_drop_more, at_drop_all, length-map, get_or-map, get_or_append_left, get_or_push}
 use Rattle.std.proofs.lemmas.Bool.{cases_lt, eq-eqb, ne_eqb}
 use Rattle.std.proofs.lemmas.Bool.Decides.{nat_tests}
 use Rattle.grammar.specs.Recording.{Formula, eq, lt, gt, mark, by, neg, before, once, always, and, or, implies, since}
@@ -11,14 +11,13 @@ use Rattle.text.specs.declared.fault.TextFault.{TextFault}
 use Rattle.text.specs.declared.fault.TextFault.TheVariants.{OutOfRange}
 use Rattle.text.specs.Places.{byte_place}
 use Rattle.text.specs.Ranges.{InRange, FirstOut, if_fits}
-use Rattle.formula.specs.declared.spelling.Spelling.{Spelling}
 use Rattle.formula.specs.declared.word.Word.{Word}
 use Rattle.formula.specs.declared.word.Word.TheVariants.{Eq as EqW, Lt as LtW, Gt as GtW, Mark as MarkW, By as ByW, Not as NotW, And as AndW, Or as OrW, Implies as ImpliesW, Before as BeforeW, Once as OnceW, Always as AlwaysW, Since as SinceW}
 use Rattle.formula.specs.Reading.{openings, word_of, named, compared, paired, filled_one, filled_two, head_at, ReadsWord}
 use Rattle.formula.specs.Spelling.{Spelt, Spells}
 use Rattle.formula.specs.Truth.{subformulas, size}
 use Rattle.formula.specs.Words.{word_at, no_word}
-use Rattle.formula.proofs.Found.{in_range, first_out, pair_out, name_out, head_out, Spot, walk, place, of, Stands, Found, found_at}
+use Rattle.formula.proofs.Found.{in_range, first_out, head_out, Spot, walk, place, of, Stands, found_at}
 use Rattle.formula.proofs.Parts.{parts_size}
 
 -- the first piece out of range

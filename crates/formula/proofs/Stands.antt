@@ -1,19 +1,18 @@
 -- The theorem on a formula's codes.
-use Rattle.std.proofs.Common.{◌≡◌, ℕ, zero, suc, ◌+◌, ◌-◌, ◌<◌, ◌≤◌, true, false, List, length, get_or, take, ℤ, Decides, sym, refl, ap, ◌∙◌, subst, add-one, arith}
+use Rattle.std.proofs.Common.{◌≡◌, ℕ, zero, suc, ◌+◌, ◌-◌, ◌<◌, ◌≤◌, false, List, length, get_or, ℤ, Decides, sym, refl, ap, ◌∙◌, subst, add-one, arith}
 use Rattle.std.proofs.lemmas.List.Sums.{fold_more}
 use Rattle.std.proofs.lemmas.Bool.{false≢true}
 use Rattle.std.proofs.lemmas.Bool.Decides.{Decides-at}
 use Rattle.codes.specs.Codes.{bit_of}
 use Rattle.events.specs.declared.event.Action.{Action}
-use Rattle.monitor.specs.Meaning.{ran}
 use Rattle.formula.specs.declared.formula.Formula.{Formula as Compiled}
 use Rattle.formula.specs.Step.{stepped}
 use Rattle.formula.specs.Meant.{starts_of, meant}
 use Rattle.formula.specs.Table.{Tabled}
 use Rattle.grammar.specs.Recording.{Formula}
-use Rattle.formula.specs.Truth.{no_action, action_at, Holds, subformulas, size}
+use Rattle.formula.specs.Truth.{no_action, Holds, subformulas}
 use Rattle.formula.specs.Theorem.{code_after, Truthful, Faithful, Watches, AllWatch}
-use Rattle.formula.proofs.Parts.{parts_size, placed}
+use Rattle.formula.proofs.Parts.{placed}
 use Rattle.formula.proofs.Truths.{codes, holds_at, flag_at, begin_over}
 
 codes_ran : (t : Compiled) (run : List Action) (k : ℕ) → k ≤ length run → code_after t run k ≡ codes (starts_of t) t.nodes t.len run k

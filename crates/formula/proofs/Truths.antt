@@ -1,10 +1,10 @@
 -- The codes of a run, and the truths that their bits are.
-use Rattle.std.proofs.Common.{◌≡◌, ℕ, zero, suc, ◌+◌, ◌-◌, ◌<◌, ◌≤◌, Bool, true, false, cond, not, ◌&&◌, ◌||◌, eqb, ltb, ◌⊎◌, List, get_or, ℤ, pos, ◌<ℤ◌, Decides, sym, refl, ap, ◌∙◌, subst, inl, inr, ⊎_elim, arith}
+use Rattle.std.proofs.Common.{◌≡◌, ℕ, zero, suc, ◌+◌, ◌-◌, ◌<◌, ◌≤◌, Bool, true, false, cond, not, ◌&&◌, ◌||◌, eqb, ltb, List, get_or, ℤ, pos, ◌<ℤ◌, Decides, sym, refl, ap, ◌∙◌, subst, arith}
 use mathlib.Core.Bool.{or-false, or_comm, and-true, and-false}
 use lib.Signed.{lt_z}
 use Rattle.std.proofs.lemmas.Bool.{false≢true, lt-ltb, le-ltb}
 use Rattle.std.proofs.lemmas.Bool.Decides.{Decides-at, Decides-like, Decides-not, Decides-and, Decides-or, Decides-eqb}
-use Rattle.codes.specs.Codes.{bit_of, code_of}
+use Rattle.codes.specs.Codes.{bit_of}
 use Rattle.codes.proofs.Codes.{bit_code}
 use Rattle.events.specs.declared.event.Action.{Action}
 use Rattle.formula.specs.declared.node.Node.{Node}

@@ -1,5 +1,5 @@
 -- How the words of a formula are read from its text.
-use Rattle.std.specs.Prelude.{◌≡◌, ℕ, suc, ◌+◌, ◌^◌, ◌<◌, Bool, true, false, cond, ◌&&◌, List, [], ◌∷◌, ◌++◌, length, drop, ℤ, pos, Ok, Err, decimal, Result, ◌==◌, nat_le, slice_index}
+use Rattle.std.specs.Prelude.{◌≡◌, ℕ, suc, ◌+◌, ◌^◌, ◌<◌, Bool, false, cond, ◌&&◌, List, [], ◌∷◌, ◌++◌, length, drop, ℤ, pos, Ok, Err, decimal, Result, ◌==◌, nat_le, slice_index}
 use Rattle.std.specs.Fmt.{signed_decimal}
 use Rattle.grammar.specs.Recording.{Formula, eq, lt, gt, mark, by, neg, before, once, always, and, or, implies, since}
 use Rattle.grammar.specs.Recording.{Piece, TenDigits, flat, formula}

@@ -1,5 +1,5 @@
 -- Rows beside one another, and the productions of a name as rows.
-use Rattle.std.proofs.Common.{◌≡◌, ℕ, suc, ◌+◌, ◌-◌, max, Bool, true, false, cond, ◌&&◌, List, [], ◌∷◌, ◌++◌, get_or, drop, sym, refl, ap, ◌∙◌, append_assoc, append-nil, arith}
+use Rattle.std.proofs.Common.{◌≡◌, ℕ, suc, ◌+◌, max, Bool, true, false, cond, ◌&&◌, List, [], ◌∷◌, ◌++◌, get_or, drop, sym, refl, ap, ◌∙◌, append_assoc, append-nil, arith}
 use Rattle.grammar.specs.Recording.{Shape, whole, wrong, early}
 use Rattle.grammar.specs.Machine.{has, Name, Sym, t, n, Prod, prods, nullable, keep, skip, pick, after, ends, any_ends, step, later, ended, next, run}
 use Rattle.grammar.specs.Reading.{place, run_at, far}

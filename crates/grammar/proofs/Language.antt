@@ -1,5 +1,5 @@
 -- The texts of a row of symbols.
-use Rattle.std.proofs.Common.{◌≡◌, ℕ, ◌+◌, T, ◌⊎◌, List, [], ◌∷◌, ◌++◌, map, sym, refl, ap, ◌∙◌, subst, inl, inr, append_assoc}
+use Rattle.std.proofs.Common.{◌≡◌, ℕ, T, ◌⊎◌, List, [], ◌∷◌, ◌++◌, map, sym, refl, ap, ◌∙◌, subst, inl, inr, append_assoc}
 use Rattle.grammar.specs.Spelling.{Among, Digits, Num, Int, Term, Fits, shown, Row, AllInt, AllFit, tails, spaced, row_lines}
 use Rattle.grammar.specs.Machine.{Has, Name, more, num, int, tail, vals, rest, form, Sym, t, n, lits, Prod, prods, nullable}
 

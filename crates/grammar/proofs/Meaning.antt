@@ -1,5 +1,5 @@
 -- The legal texts are the spelled ones.
-use Rattle.std.proofs.Common.{◌≡◌, ℕ, zero, suc, ◌+◌, ◌^◌, ◌<◌, ◌≤◌, List, [], ◌∷◌, ◌++◌, get_or, ℤ, pos, codes, decimal, sym, refl, ap, ◌∙◌, inl, inr, append_assoc, append-nil, arith}
+use Rattle.std.proofs.Common.{◌≡◌, ℕ, zero, suc, ◌^◌, ◌<◌, ◌≤◌, List, [], ◌∷◌, ◌++◌, get_or, ℤ, pos, codes, decimal, sym, refl, ap, ◌∙◌, inl, inr, append_assoc, append-nil, arith}
 use Rattle.std.specs.Fmt.{signed_decimal}
 use Rattle.events.specs.declared.event.Action.{Action}
 use Rattle.grammar.specs.Recording.{Formula, Recording, Piece, opening, closing, blank, newline, word, small, flat, formula, kind_words, ending, line, lines, further, values, pieces, TenDigits, Nests, Writable, All, Legal, LegalRule}

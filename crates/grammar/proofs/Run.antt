@@ -1,5 +1,5 @@
 -- The machine gives each text its shape.
-use Rattle.std.proofs.Common.{◌≡◌, ℕ, ◌+◌, Bool, true, false, cond, ◌&&◌, T, ◌⊎◌, List, [], ◌∷◌, ◌++◌, codes, sym, refl, ap, subst, inl, inr, append-nil, arith}
+use Rattle.std.proofs.Common.{◌≡◌, ℕ, Bool, true, false, cond, ◌&&◌, T, ◌⊎◌, List, [], ◌∷◌, ◌++◌, codes, sym, refl, ap, subst, inl, inr, append-nil, arith}
 use Rattle.grammar.specs.Recording.{Shape, whole, wrong, early, Shaped}
 use Rattle.grammar.specs.Spelling.{Among, Num, Term, tag, shown, AllInt, spaced, row_lines, Spelling, Sound, Spelled, SpelledRule}
 use Rattle.grammar.specs.Machine.{Class, is, any, some, Has, has, Name, more, num, int, tail, vals, rest, form, Sym, t, n, lits, Prod, prods, nullable, keep, skip, pick, after, ends, any_ends, step, later, ended, next, run, start}

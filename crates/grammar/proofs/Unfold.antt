@@ -1,5 +1,5 @@
 -- The texts of a name are those of its productions, and the empty one where it can be left out.
-use Rattle.std.proofs.Common.{◌≡◌, ℕ, zero, suc, ◌+◌, T, ◌⊎◌, List, [], ◌∷◌, ◌++◌, map, codes, sym, refl, ap, ◌∙◌, subst, inl, inr, append-nil}
+use Rattle.std.proofs.Common.{◌≡◌, ℕ, zero, suc, T, ◌⊎◌, List, [], ◌∷◌, ◌++◌, map, codes, sym, refl, ap, ◌∙◌, subst, inl, inr, append-nil}
 use Rattle.grammar.specs.Spelling.{Among, Digits, Positive, Num, Int, Term, cmp, tag, un, bin, cmps, tags, uns, bins, Fits, shown, Row, at, lock, ats, locks, row_line, AllFit, tails, row_lines}
 use Rattle.grammar.specs.Machine.{is, any, some, Name, more, num, int, tail, vals, rest, form, Sym, t, n, Prod, cmp_p, tag_p, un_p, bin_p, at_p, lock_p, rule_p, leaf_ps, inner_ps, event_ps, prods, nullable}
 use Rattle.grammar.proofs.Language.{lang, L, row, By, Unfolds, among_map, among_unmap, among_left, among_right, among_cases, lits_to, lits_from}

@@ -13,7 +13,6 @@ use Rattle.events.specs.First.{first_fit}
 use Rattle.events.specs.Noting.{Opening, eq_z, count_of, free, held_by, subjects, value_now, lock_now, note_tests, refused, Noted}
 use Rattle.order.specs.Trace.{blank, thread_at, place_at, kind_at, subject_at, value_at, Reads}
 use Rattle.order.specs.Before.Feeds.{value}
-use Rattle.order.specs.Groups.Group.{starting}
 use Rattle.order.specs.Runs.{Ordering, Consistent, reordered, SameFeeds, KeepsLast}
 use Rattle.order.specs.Sound.{Holds, Sound, Within}
 use Rattle.order.specs.Noted.{Allowed}

@@ -1,19 +1,19 @@
 -- Along a replay.
 use Rattle.std.proofs.Common.{◌≡◌, ℕ, zero, suc, ◌+◌, ◌<◌, ◌≤◌, ◌⊎◌, List, [], ◌∷◌, ◌++◌, map, length, get_or, take, drop, set, sym, refl, ap, ◌∙◌, subst, ap₂, inl, inr, append_assoc, append-nil, arith, take-append-drop, drop-cons}
 use mathlib.Core.Path.{fun_ext}
-use Rattle.std.proofs.lemmas.List.{map-append, length-set, get_or-set_same, get_or-set_other}
+use Rattle.std.proofs.lemmas.List.{map-append, get_or-set_same, get_or-set_other}
 use Rattle.std.proofs.lemmas.Bool.{cases_lt, cases_eq, cases_order}
 use Rattle.events.specs.declared.event.Event.{Event}
 use Rattle.events.specs.Events.{action_of}
-use Rattle.order.specs.Trace.{blank, thread_at, place_at}
+use Rattle.order.specs.Trace.{blank, thread_at}
 use Rattle.order.specs.Runs.{Consistent, thread_list, RunOf, reordered}
-use Rattle.order.specs.Cuts.{Cut, empty_cut, advance, In, Full, MayFollow, AcceptedFrom, Accepted, Reach}
+use Rattle.order.specs.Cuts.{Cut, empty_cut, advance, In, MayFollow, AcceptedFrom, Accepted, Reach}
 use Rattle.order.specs.Cuts.Reach.{start, onward}
 use Rattle.order.specs.Sound.{Sound}
 use Rattle.order.specs.Clocks.{Number}
 use Rattle.order.specs.Clocks.Number.{none, one_more, no_more}
 use Rattle.order.specs.Reached.{cut_of}
-use Rattle.order.specs.Waiting.{HasNext, Missing, Blocked}
+use Rattle.order.specs.Waiting.{HasNext}
 use Rattle.order.proofs.Cuts.{advance_own, advance_other, in_advance, in_advance_cases}
 use Rattle.order.proofs.Paths.{runs_are_paths}
 use Rattle.order.proofs.Reaching.{run_length, paths_are_runs}

@@ -1,5 +1,5 @@
 -- At most one outcome is right.
-use Rattle.std.proofs.Common.{◌≡◌, ℕ, ◌<◌, ◌≤◌, List, length, Ok, Err, Result, sym, refl, ap, ◌∙◌, subst, ap₂, arith}
+use Rattle.std.proofs.Common.{◌≡◌, ℕ, ◌<◌, ◌≤◌, List, Ok, Err, Result, sym, refl, ap, ◌∙◌, ap₂, arith}
 use Rattle.events.specs.declared.event.Event.{Event}
 use Rattle.order.specs.Cuts.{Cut}
 use Rattle.order.specs.Sound.{Sound}
@@ -13,7 +13,7 @@ use Rattle.follow.specs.Answers.{Answers}
 use Rattle.follow.proofs.Single.{one_answer}
 use Rattle.replay.specs.declared.refusal.ReplayRefusal.{ReplayRefusal}
 use Rattle.replay.specs.declared.refusal.ReplayRefusal.TheVariants as refusal
-use Rattle.replay.specs.Outcome.{actions_of, Refused, RefusedAt, Replayed, Outcome, OneOutcome}
+use Rattle.replay.specs.Outcome.{actions_of, Refused, Replayed, Outcome, OneOutcome}
 use Rattle.replay.proofs.Along.{together, stops_thread, stops_done, stops_missing, stops_blocked}
 
 module _ (es : List Event) (sound : Sound es) (n : ℕ) (few : ThreadsBelow es n) (ts : List ℕ) where

@@ -1,7 +1,6 @@
 -- The steps of building a recording from the pieces of one.
-use Rattle.std.proofs.Common.{◌≡◌, ℕ, ◌+◌, ◌-◌, ◌<◌, ◌≤◌, false, List, [], ◌∷◌, ◌++◌, length, take, drop, ℤ, Ok, Err, vec_items, codes, Option, Result, sym, refl, ap, ◌∙◌, subst, arith, length-append}
+use Rattle.std.proofs.Common.{◌≡◌, ℕ, ◌+◌, ◌-◌, false, List, [], ◌∷◌, ◌++◌, length, take, drop, ℤ, Ok, Err, vec_items, codes, Option, Result, sym, refl, ap, ◌∙◌, subst, arith, length-append}
 use Rattle.std.proofs.lemmas.List.{drop_at, take_at}
-use Rattle.events.specs.declared.event.Action.{Action}
 use Rattle.grammar.specs.Recording as grammar
 use Rattle.grammar.specs.Recording.{All, Formula, Legal, Piece, Proper, flat, formula, lines, pieces, values}
 use Rattle.grammar.specs.Recording.{opening, closing, blank, newline, word, small, wide}
@@ -11,13 +10,12 @@ use Rattle.text.specs.declared.fault.TextFault.{TextFault}
 use Rattle.text.specs.declared.fault.ReadFault.{ReadFault}
 use Rattle.text.specs.declared.fault.ReadFault.TheVariants.{Text, Memory}
 use Rattle.text.specs.Building.{Built}
-use Rattle.text.specs.Places.{byte_place}
 use Rattle.text.specs.Ranges.{InRange}
 use Rattle.text.specs.Reading.{Spelt, said}
-use Rattle.text.specs.Standing.{Fails, Moved, Outside, Roles, Stand, trim}
+use Rattle.text.specs.Standing.{Fails, Outside, Roles, Stand, trim}
 use Rattle.text.specs.Tokens.{skip}
 use Rattle.text.proofs.Loops.{Named}
-use Rattle.text.proofs.Meeting.{flat_append, meet, stand_trimmed}
+use Rattle.text.proofs.Meeting.{flat_append, stand_trimmed}
 use Rattle.text.proofs.Neatness.{formula_more, neat_pieces, roles_formula, trim_formula, trim_lines}
 
 -- the pieces from the rule on, from the lines on, and from the values on

@@ -1,5 +1,5 @@
 -- What is left to read when a loop goes round.
-use Rattle.std.proofs.Common.{◌≡◌, ℕ, ◌+◌, ◌<◌, ◌≤◌, Bool, true, false, List, [], ◌∷◌, ◌++◌, length, get_or, ℤ, Some, None, Ok, Err, codes, Option, Result, sym, refl, ap, ◌∙◌, subst, append_assoc, arith}
+use Rattle.std.proofs.Common.{◌≡◌, ℕ, ◌<◌, Bool, List, [], ◌∷◌, ◌++◌, get_or, ℤ, Some, None, Ok, Err, codes, Option, Result, sym, refl, ap, ◌∙◌, subst, append_assoc, arith}
 use Rattle.std.specs.Global.{Vec}
 use Rattle.std.specs.Fmt.{signed_decimal}
 use Rattle.std.proofs.lemmas.List.{append-nil}
@@ -11,10 +11,9 @@ use Rattle.text.specs.declared.reader.Reader.{Reader}
 use Rattle.text.specs.declared.token.Token.{Token}
 use Rattle.text.specs.declared.token.Token.TheVariants as token
 use Rattle.text.specs.declared.fault.TextFault.{TextFault}
-use Rattle.text.specs.declared.fault.TextFault.TheVariants.{OutOfRange}
 use Rattle.text.specs.Places.{byte_place}
 use Rattle.text.specs.Ranges.{InRange, wide_number}
-use Rattle.text.specs.Tokens.{Lexeme, Next, ahead, kind_in, number_in, numeral, placed, seen}
+use Rattle.text.specs.Tokens.{Lexeme, Next, ahead, kind_in, number_in, placed, seen}
 use Rattle.text.specs.declared.fault.ReadFault.{ReadFault}
 use Rattle.text.specs.declared.fault.ReadFault.TheVariants.{Text}
 use Rattle.text.specs.Standing.{Checked, Ended, LineEnd, ListTaken, Moved, Neat, Outside, Role, Roles, Stand, Taken, is_number, line_end, token_of, trim}

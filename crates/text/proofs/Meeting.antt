@@ -1,5 +1,5 @@
 -- The next token of a text that is made of pieces.
-use Rattle.std.proofs.Common.{◌≡◌, ℕ, suc, ◌+◌, ◌-◌, ◌^◌, ◌<◌, ◌≤◌, Bool, true, false, cond, eqb, leb, List, [], ◌∷◌, ◌++◌, length, take, drop, ℤ, pos, negsuc, Some, None, decimal, Option, sym, refl, ap, ◌∙◌, subst, append_assoc, arith, length-append}
+use Rattle.std.proofs.Common.{◌≡◌, ℕ, suc, ◌+◌, ◌^◌, ◌<◌, Bool, true, false, cond, List, [], ◌∷◌, ◌++◌, length, take, drop, pos, negsuc, Some, None, decimal, Option, sym, refl, ap, ◌∙◌, subst, append_assoc, arith, length-append}
 use Rattle.std.specs.Str.Parse.{AllDigits}
 use Rattle.std.specs.Int.{IsInRange}
 use Rattle.std.specs.Fmt.{signed_decimal}
@@ -7,9 +7,8 @@ use Rattle.std.proofs.lemmas.Fmt.{decimal_is_IsNumeral}
 use Rattle.std.proofs.lemmas.List.{append-nil, drop_at, take_at}
 use Rattle.std.proofs.lemmas.Str.Parse.{digit_from_value}
 use Rattle.std.proofs.lemmas.Bool.Decides.{nat_tests}
-use Rattle.grammar.specs.Recording.{All, Piece, TenDigits, bytes, flat}
+use Rattle.grammar.specs.Recording.{All, Piece, bytes, flat}
 use Rattle.grammar.specs.Recording.{opening, closing, blank, newline, word, small, wide}
-use Rattle.text.specs.declared.place.Place.{Place}
 use Rattle.text.specs.declared.reader.Reader.{Reader}
 use Rattle.text.specs.declared.token.Kind.{Kind}
 use Rattle.text.specs.declared.token.Kind.TheVariants.{Blank, Letter, Digit}
@@ -17,7 +16,7 @@ use Rattle.text.specs.declared.token.Sort.{Sort}
 use Rattle.text.specs.declared.token.Sort.TheVariants.{Word, Number}
 use Rattle.text.specs.Places.{byte_place}
 use Rattle.text.specs.Ranges.{FirstOut, InRange}
-use Rattle.text.specs.Tokens.{Lexeme, ahead, begins, leftBracket, letters, lexeme, lexeme_as, numeral, is_of_kind, passed, placed, rightBracket, run, size, skip, sort_of_byte, sort_of}
+use Rattle.text.specs.Tokens.{Lexeme, ahead, begins, leftBracket, letters, lexeme, lexeme_as, numeral, is_of_kind, placed, rightBracket, run, size, skip, sort_of_byte}
 use Rattle.text.specs.Standing.{Moved, Neat, Stand, Stops, token_of, trim}
 use Rattle.text.proofs.Numerals.{small_range}
 

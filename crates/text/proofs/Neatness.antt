@@ -1,5 +1,5 @@
 -- The pieces of a recording that can be written are neat, and its rule's numbers have their roles.
-use Rattle.std.proofs.Common.{◌≡◌, ℕ, zero, suc, ◌+◌, ◌<◌, ◌≤◌, Bool, true, false, List, [], ◌∷◌, ◌++◌, length, get_or, ℤ, Some, None, codes, Option, sym, refl, ap, ◌∙◌, append_assoc, arith}
+use Rattle.std.proofs.Common.{◌≡◌, ℕ, zero, suc, ◌<◌, ◌≤◌, Bool, false, List, [], ◌∷◌, ◌++◌, length, get_or, ℤ, Some, codes, sym, refl, ap, ◌∙◌, append_assoc, arith}
 use Rattle.events.specs.declared.event.Action.{Action}
 use Rattle.grammar.specs.Recording as grammar
 use Rattle.grammar.specs.Recording.{All, Formula, Nests, Piece, Proper, TenDigits, Writable, bytes, comparing, ending, flat, formula, further, kind_words, line, lines, naming, pieces, values}
@@ -7,7 +7,6 @@ use Rattle.grammar.specs.Recording.{opening, closing, blank, newline, word, smal
 use Rattle.text.specs.declared.token.Kind.TheVariants.{Letter}
 use Rattle.text.specs.Tokens.{kind_in, run}
 use Rattle.text.specs.Standing.{Neat, Roles, Stops, trim}
-use Rattle.text.proofs.Meeting.{flat_append}
 
 -- the kinds' words
 pub kind_word : (k : ℕ) → k ≤ 4 → kind_in (get_or kind_words k []) ≡ Some k

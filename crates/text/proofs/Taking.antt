@@ -1,23 +1,22 @@
 -- What is read of the next token.
-use Rattle.std.proofs.Common.{◌≡◌, ℕ, zero, suc, ◌+◌, ◌^◌, ◌<◌, ◌≤◌, Bool, true, false, cond, ltb, leb, List, [], ◌∷◌, length, take, drop, ℤ, Some, None, Ok, Err, decimal, Option, Result, sym, refl, ap, ◌∙◌, subst, arith}
+use Rattle.std.proofs.Common.{◌≡◌, ℕ, zero, suc, ◌^◌, ◌<◌, ◌≤◌, Bool, true, false, ltb, leb, List, [], ◌∷◌, drop, ℤ, Some, None, Err, decimal, Option, Result, sym, refl, ap, ◌∙◌, subst, arith}
 use lib.Signed.{mag}
 use Rattle.std.specs.Fmt.{signed_decimal}
 use Rattle.std.proofs.lemmas.Bool.Decides.{nat_tests}
 use Rattle.events.specs.declared.event.Action.{Action}
 use Rattle.grammar.specs.Recording.{Piece, TenDigits, ending, flat}
-use Rattle.grammar.specs.Recording.{opening, closing, blank, newline, word, small, wide}
+use Rattle.grammar.specs.Recording.{blank, word, small, wide}
 use Rattle.text.specs.declared.place.Place.{Place}
 use Rattle.text.specs.declared.reader.Reader.{Reader}
 use Rattle.text.specs.declared.fault.TextFault.{TextFault}
-use Rattle.text.specs.declared.fault.TextFault.TheVariants.{OutOfRange}
 use Rattle.text.specs.declared.token.Token.{Token}
 use Rattle.text.specs.declared.token.Sort.{Sort}
 use Rattle.text.specs.declared.token.Sort.TheVariants as sort
 use Rattle.text.specs.Places.{byte_place}
 use Rattle.text.specs.Ranges.{InRange, if_fits, small_number, wide_number}
 use Rattle.text.specs.Tokens.{Lexeme, ahead, lexeme, lexeme_as, Next, kind_in, number_in, numeral, passed, placed, size, skip, sort_of, word_in}
-use Rattle.text.specs.Standing.{Moved, Onward, Outside, Stand, Taken, token_of, trim}
-use Rattle.text.proofs.Meeting.{Met, meet}
+use Rattle.text.specs.Standing.{Moved, Onward, Outside, Taken, token_of}
+use Rattle.text.proofs.Meeting.{Met}
 
 -- a token that comes next is passed
 lexeme_some : (o : Option Sort) (c : ℕ) (cs : List ℕ) (p : Place) (x : Lexeme × Place) → placed (lexeme_as o (c ∷ cs)) p ≡ Some x → 0 < size (lexeme_as o (c ∷ cs))

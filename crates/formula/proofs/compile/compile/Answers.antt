@@ -1,8 +1,8 @@
-use Rattle.std.proofs.Common.{◌≡◌, ◌+◌, ◌-◌, List, length, sym, ap, ◌∙◌, ⊎_elim, arith, length-set}
+use Rattle.std.proofs.Common.{◌≡◌, ◌-◌, List, length, sym, ⊎_elim, arith, length-set}
 use Rattle.formula.specs.declared.word.Word.{Word}
 use Rattle.formula.specs.Truth.{size}
 use Rattle.formula.specs.Words.{OneFormula}
-use Rattle.formula.proofs.Spelt.{Good, more}
+use Rattle.formula.proofs.Spelt.{more}
 use Rattle.formula.proofs.Truths.{size_pos}
 use Rattle.formula.proofs.Views.{one_spelt, same_size, stuck}
 use Rattle.formula.proofs.compile.compile.Goals as goal

@@ -1,4 +1,4 @@
-use Rattle.std.proofs.Common.{◌+◌, drop, sym, ap, ◌∙◌, arith}
+use Rattle.std.proofs.Common.{drop, sym, arith}
 use Rattle.formula.proofs.Bytes.{digit_within, digits_more, digits-stop}
 use Rattle.formula.proofs.numbers.digits_end.Goals as goal
 

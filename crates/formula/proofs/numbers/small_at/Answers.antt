@@ -1,4 +1,4 @@
-use Rattle.std.proofs.Common.{◌≡◌, ◌+◌, length, decimal, sym, ap, ◌∙◌, arith}
+use Rattle.std.proofs.Common.{◌≡◌, ◌+◌, length, decimal, ap, ◌∙◌, arith}
 use Rattle.text.specs.Ranges.{small_number}
 use Rattle.formula.specs.Reading.{digits}
 use Rattle.formula.proofs.Figures.{decimal_length, small_width, part_within, to_end}

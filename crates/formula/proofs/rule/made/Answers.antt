@@ -1,4 +1,4 @@
-use Rattle.std.proofs.Common.{◌≡◌, ◌≤◌, List, [], length, sym, ap, ◌∙◌, arith}
+use Rattle.std.proofs.Common.{length, arith}
 use Rattle.formula.proofs.Made.{is_some, tabled}
 use Rattle.formula.proofs.Rows.{sound_from}
 use Rattle.formula.proofs.Stands.{watch_from}

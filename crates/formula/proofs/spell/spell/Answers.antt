@@ -1,5 +1,5 @@
-use Rattle.std.proofs.Common.{◌≡◌, ◌+◌, sym, refl, ap, ◌∙◌, arith}
-use Rattle.formula.proofs.Scan.{Scanned, begin, skipped, passed, stored, faulty, finished, renamed}
+use Rattle.std.proofs.Common.{◌+◌, refl, arith}
+use Rattle.formula.proofs.Scan.{begin, skipped, passed, stored, faulty, finished, renamed}
 use Rattle.formula.proofs.spell.spell.Goals as goal
 use Rattle.formula.proofs.spell.spell.Goals.{then-text-i-eq40+in-Ok+then-len-lt61, then-text-i-eq40+in-Ok+else-len-lt61, else-text-i-eq40}
 

@@ -1,8 +1,8 @@
-use Rattle.std.proofs.Common.{◌≡◌, ℕ, ◌-◌, ◌^◌, Bool, true, false, not, ◌||◌, sym, ap, ◌∙◌, subst, arith}
+use Rattle.std.proofs.Common.{◌≡◌, ◌-◌, ◌^◌, true, false, not, ◌||◌, sym, ap, ◌∙◌, subst, arith}
 use lib.Bits.{bit_or}
 use Rattle.std.proofs.lemmas.Bool.{or_left, or_right, or_from, not_from_true, not_from_false}
 use Rattle.codes.specs.Codes.{bit_of, code_of}
-use Rattle.formula.specs.Step.{eval, stepped, Turn}
+use Rattle.formula.specs.Step.{eval, Turn}
 use Rattle.formula.proofs.Evals.{only_power, from, from_none, turn_yes, turn_no}
 use Rattle.formula.proofs.Ends.{whole_yes, whole_no, stepped_turn, turn_one}
 use Rattle.formula.proofs.step.next_code.Goals as goal

@@ -1,7 +1,7 @@
 use Rattle.std.proofs.Common.{◌≡◌, ◌^◌, sym, ap, ◌∙◌, arith}
 use lib.Bits.{bit_or}
 use Rattle.formula.specs.Meant.{starts_of}
-use Rattle.formula.specs.Step.{started, initial}
+use Rattle.formula.specs.Step.{started}
 use Rattle.formula.specs.Table.{node_at}
 use Rattle.formula.proofs.Evals.{inside_parts, inside_wider, only_power}
 use Rattle.formula.proofs.Ends.{begun, begun_none, begun_yes, begun_no, initial_known}

@@ -1,13 +1,13 @@
-use Rattle.std.proofs.Common.{◌≡◌, ℕ, suc, ◌+◌, ◌<◌, ◌≤◌, ◌⊎◌, List, [], ◌∷◌, ◌++◌, length, get_or, take, set, sym, refl, ap, ◌∙◌, subst, ap₂, inl, inr, arith, take_all}
+use Rattle.std.proofs.Common.{◌≡◌, ℕ, suc, ◌+◌, ◌<◌, ◌≤◌, List, [], ◌∷◌, ◌++◌, length, get_or, take, set, sym, refl, ap, ◌∙◌, subst, ap₂, inl, inr, arith, take_all}
 use Rattle.std.proofs.lemmas.List.{length-set, take_more}
 use Rattle.std.proofs.lemmas.Bool.{cases_lt}
 use Rattle.std.proofs.lemmas.Bool.Decides.{Decides-at}
 use Rattle.events.specs.declared.event.Action.{Action}
 use Rattle.events.specs.declared.event.Event.{Event}
 use Rattle.events.specs.Events.{action_of}
-use Rattle.order.specs.Trace.{blank, thread_at, place_at}
+use Rattle.order.specs.Trace.{thread_at, place_at}
 use Rattle.order.specs.Runs.{thread_list, RunOf}
-use Rattle.order.specs.Cuts.{Cut, Reach, MayFollow}
+use Rattle.order.specs.Cuts.{Cut, Reach}
 use Rattle.order.specs.Cuts.Reach.{start, onward}
 use Rattle.order.specs.Reached.{cut_of}
 use Rattle.monitor.specs.Meaning.{Meaning, ran}
@@ -20,7 +20,7 @@ use Rattle.follow.specs.Answers.{Answers}
 use Rattle.follow.specs.Made.{MadeOf}
 use Rattle.replay.specs.declared.refusal.ReplayRefusal.{ReplayRefusal}
 use Rattle.replay.specs.declared.refusal.ReplayRefusal.TheVariants as refusal
-use Rattle.replay.specs.Outcome.{actions_of, Taken, RefusedAt, Refused, Replayed}
+use Rattle.replay.specs.Outcome.{actions_of, RefusedAt, Refused}
 use Rattle.replay.proofs.Along.{cut_start, cut-more, ran_more, threads_more, length_threads, all_run, no_run}
 use Rattle.replay.proofs.steps.replay.Goals as goal
 

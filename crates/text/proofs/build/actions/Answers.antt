@@ -1,4 +1,4 @@
-use Rattle.std.proofs.Common.{Ok, Err, vec_items}
+use Rattle.std.proofs.Common.{vec_items}
 use Rattle.std.proofs.lemmas.Result.{err_from_is_err_and}
 use Rattle.text.proofs.Loops.{action_next, actions_more, actions_read, list_err}
 use Rattle.text.proofs.build.actions.Goals as goal

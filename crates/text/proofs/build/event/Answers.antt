@@ -2,7 +2,7 @@ use Rattle.std.proofs.Common.{◌≡◌, ℕ, ◌≤◌, List, ◌∷◌, pos, s
 use Rattle.events.specs.declared.event.Action.{Action}
 use Rattle.grammar.specs.Recording.{Piece, closing, ending, newline}
 use Rattle.std.proofs.lemmas.Result.{err_from_is_err_and}
-use Rattle.text.specs.Standing.{LineEnd, trim}
+use Rattle.text.specs.Standing.{trim}
 use Rattle.text.proofs.Meeting.{meet}
 use Rattle.text.proofs.Taking.{action_is, moved_onward, next_moved, onward_more, outside_err}
 use Rattle.text.proofs.build.event.Goals as goal

@@ -1,6 +1,5 @@
 use Rattle.std.proofs.Common.{ℕ, length, take, ap, ◌∙◌}
 use Rattle.events.specs.Noting.{opened_as}
-use Rattle.rows.specs.Listed.{lent}
 use Rattle.trace.proofs.Invariant.{kept_none}
 use Rattle.trace.proofs.Trace.open.Goals as goal
 

@@ -1,6 +1,5 @@
 use Rattle.std.proofs.Common.{◌≡◌, ℕ, suc, ◌+◌, ◌<◌, List, length, sym, refl, ◌∙◌, subst, arith}
 use Rattle.events.specs.declared.event.Event.{Event}
-use Rattle.follow.specs.declared.tables.Tables.{Tables}
 use Rattle.follow.proofs.Filling.{Filled, filled_none, filled_more}
 use Rattle.follow.proofs.Making.{fit_of, made_of}
 use Rattle.follow.proofs.tables.Tables.make.Goals as goal

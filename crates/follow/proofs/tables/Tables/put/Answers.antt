@@ -1,4 +1,4 @@
-use Rattle.std.proofs.Common.{◌≡◌, ℕ, set, sym, refl, subst}
+use Rattle.std.proofs.Common.{◌≡◌, ℕ, set}
 use Rattle.events.specs.declared.event.Event.{Event}
 use Rattle.follow.specs.declared.tables.Tables.{Tables}
 use Rattle.follow.specs.Made.{slot_of}

@@ -1,4 +1,4 @@
-use Rattle.std.proofs.Common.{◌≡◌, ℕ, ◌<◌, ltb, List, length, get_or, sym, refl, ap, ◌∙◌, subst}
+use Rattle.std.proofs.Common.{◌≡◌, ℕ, ◌<◌, ltb, List, length, get_or, sym, ap, ◌∙◌, subst}
 use Rattle.events.specs.declared.event.Event.{Event}
 use Rattle.order.specs.Trace.{thread_at, place_at}
 use Rattle.order.specs.Maps.{Source}

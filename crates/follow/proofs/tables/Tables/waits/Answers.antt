@@ -1,6 +1,6 @@
-use Rattle.std.proofs.Common.{◌≡◌, ℕ, suc, ◌+◌, ◌*◌, ◌<◌, not, eqb, List, get_or, sym, refl, ap, ◌∙◌, subst, add-one, arith, below_more}
+use Rattle.std.proofs.Common.{◌≡◌, ℕ, suc, ◌+◌, ◌*◌, not, eqb, List, get_or, refl, ap, ◌∙◌, arith, below_more}
 use Rattle.follow.specs.Balance.{over_threads}
-use Rattle.follow.specs.Made.{slot_of, cell_of}
+use Rattle.follow.specs.Made.{cell_of}
 use Rattle.follow.specs.Looking.{led_in, taken_in}
 use Rattle.follow.proofs.tables.Tables.waits.Goals as goal
 

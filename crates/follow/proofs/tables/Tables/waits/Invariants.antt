@@ -1,4 +1,4 @@
-use Rattle.std.proofs.Common.{◌≡◌, ℕ, suc, ◌+◌, ◌*◌, ◌<◌, ◌≤◌, get_or}
+use Rattle.std.proofs.Common.{◌≡◌, ℕ, ◌+◌, ◌*◌, ◌<◌, ◌≤◌, get_or}
 use Rattle.follow.specs.Balance.{over_threads}
 use Rattle.follow.specs.Looking.{led_in, taken_in}
 use Rattle.follow.proofs.tables.Tables.waits.Given as goal

@@ -1,4 +1,4 @@
-use Rattle.std.proofs.Common.{◌≡◌, sym, refl, ap, ◌∙◌}
+use Rattle.std.proofs.Common.{sym, refl}
 use Rattle.text.proofs.Going.{sort_within, next_word, next_number}
 use Rattle.text.proofs.reader.Reader.next.Goals as goal
 

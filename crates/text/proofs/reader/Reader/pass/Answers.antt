@@ -1,4 +1,4 @@
-use Rattle.std.proofs.Common.{◌≡◌, sym, ap, ◌∙◌, arith}
+use Rattle.std.proofs.Common.{sym, ◌∙◌, arith}
 use Rattle.text.proofs.Going.{begins_within, run_more}
 use Rattle.text.proofs.reader.Reader.pass.Goals as goal
 

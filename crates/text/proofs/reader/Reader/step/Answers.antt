@@ -1,4 +1,4 @@
-use Rattle.std.proofs.Common.{◌≡◌, ℕ, get_or, sym, ap, ◌∙◌, arith}
+use Rattle.std.proofs.Common.{get_or, ap, ◌∙◌, arith}
 use Rattle.text.specs.declared.place.Place.{Place}
 use Rattle.text.specs.Places.{past}
 use Rattle.text.proofs.Going.{place_more, line_le, column_le}
