@@ -3,8 +3,9 @@
 
 usage: python3 tools/respell.py [--list]     at the top of the repository; --list only prints the names
 
-Words are in snake case, types and modules in camel case. A definition, lemma, field or constructor of
-specs/ or proofs/ that is spelled `likeThis` or `like-this` becomes `like_this`, there and in the contracts.
+Words are in snake case, types and modules in camel case. A definition, lemma, field, constructor or bound name
+of specs/ or proofs/, or a ghost member of src/, that is spelled `likeThis` or `like-this` becomes `like_this`,
+there and in the contracts, and a fact `Like-this` becomes `LikeThis`.
 Names of src/, of the library, and those that Rattle makes from the code (goals, steps) are left alone.
 Names that would fall together with another name get the one in APART.
 """
@@ -30,6 +31,7 @@ APART = {
     "withinLine": "place_in_line",
     "sortBy": "sort_of_byte",
     "ofKind": "is_of_kind",
+    "Up-to": "NumberedUpTo",
 }
 # names that mean one thing in these crates and another one in the rest
 APART_IN = {
@@ -48,6 +50,9 @@ def heads(text):
         m = re.match(r"\s*(?:abbrev\s+)?(?:pub\s+)?(?:unfoldable\s+)?(" + WORD + r")\s*:\s", line)
         if m:
             found.add(m.group(1))
+        m = re.match(r"\s*unfoldable\s+pub\s+(" + WORD + r")\s*:\s", line)
+        if m:
+            found.add(m.group(1))
         m = re.match(r"\s*(?:abbrev\s+)?(?:pub\s+)?(?:data|record)\s+(" + WORD + ")", line)
         if m:
             found.add(m.group(1))
@@ -55,6 +60,8 @@ def heads(text):
 
 
 def snake(name):
+    if name[0].isupper():
+        return re.sub(r"-(\w)", lambda m: m.group(1).upper(), name)
     out = re.sub(r"(?<=[a-z0-9])([A-Z])", lambda m: "_" + m.group(1).lower(), name)
     return out.replace("-", "_")
 
@@ -74,7 +81,7 @@ def names():
         text = Path(path).read_text(encoding="utf8")
         used |= set(re.findall(WORD, bare(text)))
         made |= set(re.findall(r"\bgoal\.(" + WORD + ")", text))
-        for m in re.finditer(r"^use \S*\.(?:Goals|Given|Steps)\S*\.\{([^}]*)\}", text, re.M):
+        for m in re.finditer(r"^use \S*\.(?:Goals|Given)\S*\.\{([^}]*)\}", text, re.M):
             made |= set(re.findall(WORD, m.group(1)))
         if not is_answer(path):
             defined |= heads(text)
@@ -84,11 +91,13 @@ def names():
     for path in glob.glob("crates/*/src/**/*.rt", recursive=True):
         code = re.sub(r"//.*", "", Path(path).read_text(encoding="utf8"))
         source |= set(re.findall(r"[A-Za-z_]\w*", code))
+        defined |= set(re.findall(r"\bghost (\w+)(?:: \{| = \{)", code))
     kit = set()
     for path in KIT.glob("*/[sp]*/**/*.antt"):
         kit |= heads(path.read_text(encoding="utf8", errors="replace"))
-    # a name that starts with a capital is a type's or a fact's: it keeps its spelling
-    own = {n for n in defined - made - kit if not n[0].isupper() and snake(n) != n}
+    # a bound name is known by its spelling alone
+    defined |= {n for n in used if re.fullmatch(r"[a-z]+(?:[A-Z][A-Za-z0-9]*)+", n)}
+    own = {n for n in defined - made - kit if snake(n) != n}
     return own, used, source, kit, defined
 
 

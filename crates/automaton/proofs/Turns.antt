@@ -2,7 +2,7 @@
 use Rattle.std.proofs.Common.{◌≡◌, ℕ, ◌+◌, ◌<◌, Bool, true, false, ◌&&◌, ◌||◌, eqb, List, length, get_or, take, sym, ap, ◌∙◌}
 use mathlib.Core.Bool.{or-false}
 use lib.Bits.{bit_or}
-use Rattle.codes.specs.Codes.{bit_of, onlyBit}
+use Rattle.codes.specs.Codes.{bit_of, only_bit}
 use Rattle.codes.proofs.Bitwise.{bit_or_lem, bit_only}
 use Rattle.automaton.specs.declared.arc.Arc.{Arc}
 use Rattle.automaton.specs.Arcs.{any}
@@ -14,11 +14,11 @@ Marks passes at arcs c = (s : ℕ) → s < 64 → bit_of c s ≡ any (λ arc. pa
 
 pub marks_yes : (passes : Arc → Bool) (at : Arc → ℕ) (arcs : List Arc) (i : ℕ) (d : Arc) (c : ℕ) → i < length arcs
     → passes (get_or arcs i d) ≡ true → Marks passes at (take i arcs) c
-    → Marks passes at (take (i + 1) arcs) (bit_or c (onlyBit (at (get_or arcs i d))))
+    → Marks passes at (take (i + 1) arcs) (bit_or c (only_bit (at (get_or arcs i d))))
 marks_yes passes at arcs i d c h passing old s l =
     let x = get_or arcs i d in
-    bit_or_lem c (onlyBit (at x)) s
-    ∙ ap (λ b. b || bit_of (onlyBit (at x)) s) (old s l)
+    bit_or_lem c (only_bit (at x)) s
+    ∙ ap (λ b. b || bit_of (only_bit (at x)) s) (old s l)
     ∙ ap (λ b. any (λ arc. passes arc && eqb s (at arc)) (take i arcs) || b) (bit_only (at x) s l)
     ∙ ap (λ b. any (λ arc. passes arc && eqb s (at arc)) (take i arcs) || (b && eqb s (at x))) (sym passing)
     ∙ sym (any-more (λ arc. passes arc && eqb s (at arc)) arcs i d h)

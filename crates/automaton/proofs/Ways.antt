@@ -2,7 +2,7 @@
 use Rattle.std.proofs.Common.{◌≡◌, ℕ, ◌<◌, ◌≤◌, Bool, true, ltb, List, [], ◌∷◌, Decides, fold, sym, refl, ap, ◌∙◌, subst, arith}
 use Rattle.std.proofs.lemmas.Bool.{eq-eqb, eqb-true, lt-ltb, ltb-true, and_parts, and_from}
 use Rattle.std.proofs.lemmas.Bool.Decides.{Decides-at, Decides-like}
-use Rattle.codes.specs.Codes.{bit_of, onlyBit}
+use Rattle.codes.specs.Codes.{bit_of, only_bit}
 use Rattle.codes.proofs.Bitwise.{bit_only}
 use Rattle.events.specs.declared.event.Action.{Action}
 use Rattle.monitor.specs.Meaning.{ran}
@@ -42,14 +42,14 @@ module _ (n bad : ℕ) (arcs : List Arc) where
       ((decides_reaches n bad arcs c a q (path_state rest h)).1 (p, l, (e, m))) rest
 
   pub decides_can_be : (start : ℕ) (actions : List Action) (s : ℕ) → n ≤ 64 → s < n
-      → Decides (bit_of (fold (stepped n bad arcs) (onlyBit start) actions) s) (CanBe n start bad arcs actions s)
+      → Decides (bit_of (fold (stepped n bad arcs) (only_bit start) actions) s) (CanBe n start bad arcs actions s)
   decides_can_be start actions s few h = (
-    λ e. let came = leads_sound actions (onlyBit start) s h e in
+    λ e. let came = leads_sound actions (only_bit start) s h e in
         let low : came.0 < 64 = omega (arith, came.1) in
         let same : came.0 ≡ start = eqb-true _ _ (sym (bit_only start came.0 low) ∙ came.2.0) in
         subst (λ p. Path n bad arcs p actions s) same came.2.1,
     λ path. let low : start < 64 = omega (arith, path_state path h) in
-        leads_complete actions (onlyBit start) start s h (bit_only start start low ∙ eq-eqb start start refl) path,
+        leads_complete actions (only_bit start) start s h (bit_only start start low ∙ eq-eqb start start refl) path,
   )
 
 module _ (m : Automaton) (actions : List Action) where

@@ -2,7 +2,7 @@
 use Rattle.std.specs.Prelude.{◌≡◌, ℕ, ◌<◌, true, ◌&&◌, List, nat_eq, nat_lt, refl}
 use Rattle.std.proofs.Common.{◌∙◌}
 use Rattle.std.proofs.lemmas.Bool.{eq-eqb, ltb-true, and_parts, and_from}
-use Rattle.codes.specs.Codes.{bit_of, onlyBit, some}
+use Rattle.codes.specs.Codes.{bit_of, only_bit, some}
 use Rattle.codes.proofs.Codes.{bit_code, some_at}
 use Rattle.events.specs.declared.event.Action.{Action}
 use Rattle.monitor.specs.Meaning.{Meaning}
@@ -26,7 +26,7 @@ bad_stays n bad arcs c a h =
 -- from the count, the start state, the bad state and the arcs
 abbrev pub meant_by : ℕ → ℕ → ℕ → List Arc → Meaning
 meant_by n start bad arcs = record {
-  start = onlyBit start;
+  start = only_bit start;
   step = stepped n bad arcs;
   bad = is_bad n bad;
   stays = bad_stays n bad arcs;

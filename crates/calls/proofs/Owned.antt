@@ -28,13 +28,13 @@ owned_map o es lent before r after old n e h g =
     subst (λ (xs : List Row). Gives o es (to_map xs) (gave_map r (over n after old))) e
     (subst (λ (xs : List Row). Gives o es (to_map lent) (gave_map r xs)) (over_is n after old h) g)
 
-pub owned_judge : (o : Opening) (es : List Event) (m : Meaning) (lent before : List SearchRow) (lentList list : List ℕ)
+pub owned_judge : (o : Opening) (es : List Event) (m : Meaning) (lent before : List SearchRow) (lent_list list : List ℕ)
     → (r : Result Judgement JudgeRefusal) (after old : List SearchRow) (left past : List ℕ) (n k : ℕ)
-    → lent ≡ before → lentList ≡ list → length after ≡ n → length left ≡ k
-    → Gives o es (to_judge m lent lentList) (gave_judge r after left)
+    → lent ≡ before → lent_list ≡ list → length after ≡ n → length left ≡ k
+    → Gives o es (to_judge m lent lent_list) (gave_judge r after left)
     → Gives o es (to_judge m before list) (gave_judge r (over n after old) (over k left past))
-owned_judge o es m lent before lentList list r after old left past n k e d h i g =
+owned_judge o es m lent before lent_list list r after old left past n k e d h i g =
     subst (λ (xs : List SearchRow). Gives o es (to_judge m xs list) (gave_judge r (over n after old) (over k left past))) e
     (subst (λ (xs : List ℕ). Gives o es (to_judge m lent xs) (gave_judge r (over n after old) (over k left past))) d
-    (subst (λ (xs : List SearchRow). Gives o es (to_judge m lent lentList) (gave_judge r xs (over k left past))) (over_is n after old h)
-    (subst (λ (xs : List ℕ). Gives o es (to_judge m lent lentList) (gave_judge r after xs)) (over_is k left past i) g)))
+    (subst (λ (xs : List SearchRow). Gives o es (to_judge m lent lent_list) (gave_judge r xs (over k left past))) (over_is n after old h)
+    (subst (λ (xs : List ℕ). Gives o es (to_judge m lent lent_list) (gave_judge r after xs)) (over_is k left past i) g)))

@@ -4,7 +4,7 @@ use native.Mathlib.Nat.{div-eq_of_lt}
 use lib.Bits.{bit_and, bit_or, bit_xor}
 use Rattle.std.proofs.lemmas.Nat.{and_shr, or_shr, xor_shr, and_mod, or_mod, xor_mod, mod_below, div-add-mod', pow_pos}
 use Rattle.std.proofs.lemmas.Bool.{cases_lt, ne_eqb, lt-ltb, le-ltb, cond-true}
-use Rattle.codes.specs.Codes.{bit_of, onlyBit}
+use Rattle.codes.specs.Codes.{bit_of, only_bit}
 use Rattle.codes.proofs.Codes.{code_ext, code_bits, bit_low, bit_code, bit_above, only_code}
 
 digit : (n : ℕ) → n % 2 < 2
@@ -52,8 +52,8 @@ bit_zero s = ap (λ n. eqb (n % 2) 1) (div-eq_of_lt (pow_pos s))
 pub bit_over : (n c s : ℕ) → c < 2 ^ n → n ≤ s → bit_of c s ≡ false
 bit_over n c s h l = ap (λ x. bit_of x s) (code_bits n c h) ∙ bit_above n (bit_of c) s l
 
-pub bit_only : (t s : ℕ) → s < 64 → bit_of (onlyBit t) s ≡ eqb s t
-unfolding onlyBit
+pub bit_only : (t s : ℕ) → s < 64 → bit_of (only_bit t) s ≡ eqb s t
+unfolding only_bit
 bit_only t s h = go (cases_lt t 64)
   where
     go : (t < 64) ⊎ (64 ≤ t) → bit_of (cond (ltb t 64) (2 ^ t) 0) s ≡ eqb s t
@@ -84,6 +84,6 @@ bit_part n c s = go (cases_lt s n)
 pub same_bits : (n a b : ℕ) → a < 2 ^ n → b < 2 ^ n → ((s : ℕ) → s < n → bit_of a s ≡ bit_of b s) → a ≡ b
 same_bits n a b h k same = code_bits n a h ∙ code_ext n (bit_of a) (bit_of b) same ∙ sym (code_bits n b k)
 
-pub only_pow : (s : ℕ) → s < 64 → onlyBit s ≡ 2 ^ s
-unfolding onlyBit
+pub only_pow : (s : ℕ) → s < 64 → only_bit s ≡ 2 ^ s
+unfolding only_bit
 only_pow s h = cond-true _ _ _ (lt-ltb s 64 h)

@@ -6,8 +6,8 @@ unfoldable pub bit_of : ℕ → ℕ → Bool
 bit_of n s = n / 2 ^ s % 2 == 1
 
 -- the number below 2 ^ 64 with bit s alone, or 0 if there is none
-unfoldable pub onlyBit : ℕ → ℕ
-onlyBit s = cond (nat_lt s 64) (2 ^ s) 0
+unfoldable pub only_bit : ℕ → ℕ
+only_bit s = cond (nat_lt s 64) (2 ^ s) 0
 
 -- the code of those below n that pass
 unfoldable pub code_of : ℕ → (ℕ → Bool) → ℕ

@@ -3,7 +3,7 @@
 #![tactic(auto)]
 
 ghost use Rattle.std.specs.Prelude.{◌≡◌};
-ghost use Rattle.codes.specs.Codes.{bit_of, onlyBit};
+ghost use Rattle.codes.specs.Codes.{bit_of, only_bit};
 
 // Whether the code has the bit. No code has a bit of 64 or more.
 pub fn has(code: u64, bit: u8) -> bool
@@ -14,7 +14,7 @@ pub fn has(code: u64, bit: u8) -> bool
 
 // The code with this bit alone, or 0 if no code has it.
 pub fn only(bit: u8) -> u64
-    ensures { result ≡ onlyBit bit }
+    ensures { result ≡ only_bit bit }
 {
     if bit < 64 { 1 << bit } else { 0 }
 }

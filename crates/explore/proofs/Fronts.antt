@@ -6,7 +6,7 @@ use Rattle.explore.specs.System.{System, Steps}
 use Rattle.explore.specs.Rows.{Row, At, Has, Lacks, Before, row_at, first_row}
 use Rattle.explore.specs.Listing.{Found, Listing, Passed, Wanting, none, next, Holds}
 use Rattle.explore.specs.Upto.{Upto}
-use Rattle.explore.specs.Theorems.{Room-holds-first}
+use Rattle.explore.specs.Theorems.{RoomHoldsFirst}
 use Rattle.explore.proofs.Places.{at_self, at_same, row-at, le_cases, le_or_lt, NoLater, not-before}
 
 -- xs is a front of ys
@@ -170,7 +170,7 @@ module _ {N : Type 0} (S : System N) where
       absurd (lacks w.place w.row (subst (λ (ρ : Row N). At xs w.place ρ) e o) w.is))
       (le_or_lt (length xs) w.place)
 
-pub room : {N : Type 0} → Room-holds-first N
+pub room : {N : Type 0} → RoomHoldsFirst N
 room S c rows whole true l h =
     let e = one S rows whole h.extent l in
     let k = h.fits in

@@ -7,7 +7,7 @@ use Rattle.explore.specs.Listing.{Found, Listing, Holds}
 use Rattle.explore.specs.Paths.{back, path, Less, Sooner, Reaches}
 use Rattle.explore.specs.Levels.{Levelled, Tells, Ordered}
 use Rattle.explore.specs.Rounds.{computed}
-use Rattle.explore.specs.Theorems.{Rows-are-ordered}
+use Rattle.explore.specs.Theorems.{RowsAreOrdered}
 use Rattle.explore.proofs.Places.{row-at, is_row_at}
 use Rattle.explore.proofs.Back.{way, up, back_none, way_none, way_more}
 use Rattle.explore.proofs.Fronts.{Front, front}
@@ -99,7 +99,7 @@ module _ {N : Type 0} (S : System N) (rows whole : List (Row N)) (fr : Found S r
       lev : (j : ℕ) → j < length rows → level (row_at S rows j).node ≡ level (row_at S whole j).node
       lev j b = ap (λ (ρ : Row N). level ρ.node) (row_is j b)
 
-pub ordered : {N : Type 0} → Rows-are-ordered N
+pub ordered : {N : Type 0} → RowsAreOrdered N
 ordered S same top v t c rows b h =
     let l = exists S same top v t in
     ordered_front S rows (computed S same top) h.found l.found (front S rows (computed S same top) h.found h.passed l) v.level (ordered_all S top v (computed S same top) l)

@@ -12,8 +12,8 @@ use Rattle.explore.proofs.Rounds.{exists}
 abbrev good : ℕ → Bool
 good n = leb (n % 16) (n / 16) && leb (n / 16) 2
 
-next-is : (x y a : ℕ) → walk_next x a ≡ Some y → (x < 32) × (a < 2) × (y ≡ x + 16 + a)
-next-is x y a e = go (ltb x 32 && ltb a 2) refl e
+next_is : (x y a : ℕ) → walk_next x a ≡ Some y → (x < 32) × (a < 2) × (y ≡ x + 16 + a)
+next_is x y a e = go (ltb x 32 && ltb a 2) refl e
   where
     go : (b : Bool) → (ltb x 32 && ltb a 2) ≡ b → cond b (Some (x + 16 + a)) None ≡ Some y → (x < 32) × (a < 2) × (y ≡ x + 16 + a)
     go true t q = let p = and_parts (ltb x 32) (ltb a 2) t in (ltb-true x 32 p.0, ltb-true a 2 p.1, cc)
@@ -31,9 +31,9 @@ walk_levels =
       level = λ n. n / 16;
       good = good;
       good_first = refl;
-      good_next = λ x y a h e. let n = next-is x y a e.1 in let g = good_is x h in is_good y (omega arith) (omega arith);
+      good_next = λ x y a h e. let n = next_is x y a e.1 in let g = good_is x h in is_good y (omega arith) (omega arith);
       level_first = refl;
-      level_next = λ x y a h e. let n = next-is x y a e.1 in let g = good_is x h in omega arith;
+      level_next = λ x y a h e. let n = next_is x y a e.1 in let g = good_is x h in omega arith;
       level_top = λ x h. (good_is x h).1;
     }
 

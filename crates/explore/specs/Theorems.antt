@@ -8,25 +8,25 @@ use Rattle.explore.specs.Levels.{Levelled, Tells, Ordered}
 use Rattle.explore.specs.Rounds.{computed}
 
 -- a system has one listing at most
-abbrev pub Listing-is-one : Type 0 → Type 0
-Listing-is-one N = (S : System N) (xs ys : List (Row N)) → Listing S xs → Listing S ys → xs ≡ ys
+abbrev pub ListingIsOne : Type 0 → Type 0
+ListingIsOne N = (S : System N) (xs ys : List (Row N)) → Listing S xs → Listing S ys → xs ≡ ys
 
 -- a system in levels has a listing, which can be computed
-abbrev pub Listing-exists : Type 0 → Type 0
-Listing-exists N = (S : System N) (same : N → N → Bool) (top : ℕ) → Levelled S top → Tells same → Listing S (computed S same top)
+abbrev pub ListingExists : Type 0 → Type 0
+ListingExists N = (S : System N) (same : N → N → Bool) (top : ℕ) → Levelled S top → Tells same → Listing S (computed S same top)
 
 -- a listing has exactly the nodes that can be reached, by their first paths
-abbrev pub Listing-reaches : Type 0 → Type 0
-Listing-reaches N = (S : System N) (rows : List (Row N)) → Listing S rows → Reaches S rows
+abbrev pub ListingReaches : Type 0 → Type 0
+ListingReaches N = (S : System N) (rows : List (Row N)) → Listing S rows → Reaches S rows
 
 -- a room for c rows holds the first c rows of the listing, and tells whether these are all
-abbrev pub Room-holds-first : Type 0 → Type 0
-Room-holds-first N =
+abbrev pub RoomHoldsFirst : Type 0 → Type 0
+RoomHoldsFirst N =
     (S : System N) (c : ℕ) (rows all : List (Row N)) (complete : Bool) → Listing S all → Holds S c rows complete →
     (rows ≡ take c all) × (complete ≡ nat_le (length all) c)
 
 -- in levels, the rows that a room holds stand in the order of their least paths
-abbrev pub Rows-are-ordered : Type 0 → Type 0
-Rows-are-ordered N =
+abbrev pub RowsAreOrdered : Type 0 → Type 0
+RowsAreOrdered N =
     (S : System N) (same : N → N → Bool) (top : ℕ) (v : Levelled S top) → Tells same →
     (c : ℕ) (rows : List (Row N)) (complete : Bool) → Holds S c rows complete → Ordered S v.level rows

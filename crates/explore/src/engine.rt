@@ -19,7 +19,7 @@ pub struct Explored {
 
 // Whether the node is listed.
 fn stands<N: Copy, R: Entry<N>>(list: &Rows<R>, node: N) -> bool
-    ensures { Stands (rows_of R.Keyed.keyed R.Traced.foundFrom R.Traced.foundBy (listed list.now)) node result }
+    ensures { Stands (rows_of R.Keyed.keyed R.Traced.found_from R.Traced.found_by (listed list.now)) node result }
 {
     list.find(node).is_some()
 }
@@ -31,12 +31,12 @@ fn try_label<N: Copy, R: Entry<N>, M: Machine<N>>(
     i: usize,
     label: u8,
 ) -> Result<(), Full>
-    requires upto { Upto (M.Machine.system machine.now) (rows_of R.Keyed.keyed R.Traced.foundFrom R.Traced.foundBy (listed list.old)) i label }
+    requires upto { Upto (M.Machine.system machine.now) (rows_of R.Keyed.keyed R.Traced.found_from R.Traced.found_by (listed list.old)) i label }
     requires room { count list.old ≤ length (lent list.old) }
     requires inside { i < count list.old }
     requires valid { label < (M.Machine.system machine.now).labels }
     ensures grown { Grown (lent list.old) (lent list.new) (count list.old) (count list.new) }
-    ensures leaves { Leaves (M.Machine.system machine.now) (length (lent list.new)) (rows_of R.Keyed.keyed R.Traced.foundFrom R.Traced.foundBy (listed list.new)) i (label + 1) result }
+    ensures leaves { Leaves (M.Machine.system machine.now) (length (lent list.new)) (rows_of R.Keyed.keyed R.Traced.found_from R.Traced.found_by (listed list.new)) i (label + 1) result }
     ensures loan { loan list.new ≡ loan list.old }
 {
     let row = list.as_slice()[i];
@@ -57,11 +57,11 @@ fn expand<N: Copy, R: Entry<N>, M: Machine<N>>(
     list: &mut Rows<R>,
     i: usize,
 ) -> Result<(), Full>
-    requires upto { Upto (M.Machine.system machine.now) (rows_of R.Keyed.keyed R.Traced.foundFrom R.Traced.foundBy (listed list.old)) i 0 }
+    requires upto { Upto (M.Machine.system machine.now) (rows_of R.Keyed.keyed R.Traced.found_from R.Traced.found_by (listed list.old)) i 0 }
     requires room { count list.old ≤ length (lent list.old) }
     requires inside { i < count list.old }
     ensures grown { Grown (lent list.old) (lent list.new) (count list.old) (count list.new) }
-    ensures leaves { Leaves (M.Machine.system machine.now) (length (lent list.new)) (rows_of R.Keyed.keyed R.Traced.foundFrom R.Traced.foundBy (listed list.new)) (i + 1) 0 result }
+    ensures leaves { Leaves (M.Machine.system machine.now) (length (lent list.new)) (rows_of R.Keyed.keyed R.Traced.found_from R.Traced.found_by (listed list.new)) (i + 1) 0 result }
     ensures loan { loan list.new ≡ loan list.old }
 {
     for label in 0..machine.labels() {
@@ -74,7 +74,7 @@ fn expand<N: Copy, R: Entry<N>, M: Machine<N>>(
 fn fill<N: Copy, R: Entry<N>, M: Machine<N>>(machine: &M, list: &mut Rows<R>) -> bool
     requires { count list.old ≡ 0 }
     ensures grown { Grown (lent list.old) (lent list.new) (count list.old) (count list.new) }
-    ensures holds { Holds (M.Machine.system machine.now) (length (lent list.new)) (rows_of R.Keyed.keyed R.Traced.foundFrom R.Traced.foundBy (listed list.new)) result }
+    ensures holds { Holds (M.Machine.system machine.now) (length (lent list.new)) (rows_of R.Keyed.keyed R.Traced.found_from R.Traced.found_by (listed list.new)) result }
     ensures loan { loan list.new ≡ loan list.old }
 {
     if list.push(R::new(machine.first(), 0, 255)).is_err() {
@@ -94,7 +94,7 @@ fn fill<N: Copy, R: Entry<N>, M: Machine<N>>(machine: &M, list: &mut Rows<R>) ->
 // as these have room; the rows beyond stay as they were.
 pub fn explore<N: Copy, R: Entry<N>, M: Machine<N>>(machine: &M, rows: &mut [R]) -> Explored
     ensures within { result.len ≤ length rows.old }
-    ensures holds { Holds (M.Machine.system machine.now) (length rows.old) (rows_of R.Keyed.keyed R.Traced.foundFrom R.Traced.foundBy (take result.len rows.new)) result.complete }
+    ensures holds { Holds (M.Machine.system machine.now) (length rows.old) (rows_of R.Keyed.keyed R.Traced.found_from R.Traced.found_by (take result.len rows.new)) result.complete }
     ensures beyond { drop result.len rows.new ≡ drop result.len rows.old }
 {
     let mut list = Rows::new(rows);

@@ -16,7 +16,7 @@ pub enum NoPath {
 
 // The row that row i was found from, where that is an earlier one: row 0 has none.
 fn parent<R: Traced>(rows: &[R], i: usize) -> Option<usize>
-    ensures { result ≡ parent_of (map R.Traced.foundFrom rows.now) i }
+    ensures { result ≡ parent_of (map R.Traced.found_from rows.now) i }
 {
     if i >= rows.len() {
         return None;
@@ -27,7 +27,7 @@ fn parent<R: Traced>(rows: &[R], i: usize) -> Option<usize>
 
 // How many steps lead to a row.
 fn depth<R: Traced>(rows: &[R], row: usize) -> usize
-    ensures { result ≡ length (path_to (map R.Traced.foundFrom rows.now) (map R.Traced.foundBy rows.now) row) }
+    ensures { result ≡ length (path_to (map R.Traced.found_from rows.now) (map R.Traced.found_by rows.now) row) }
 {
     let mut place = row;
     let mut n = 0;
@@ -42,8 +42,8 @@ fn depth<R: Traced>(rows: &[R], row: usize) -> usize
 // are; the labels beyond stay as they were. Of rows that are no listing it goes back as long as each
 // row was found from an earlier one.
 pub fn path_back<R: Traced>(rows: &[R], row: usize, labels: &mut [u8]) -> Result<usize, NoPath>
-    ensures answer { result ≡ back_path (length rows.now) row (path_to (map R.Traced.foundFrom rows.now) (map R.Traced.foundBy rows.now) row) (length labels.old) }
-    ensures labels { labels.new ≡ written result (path_to (map R.Traced.foundFrom rows.now) (map R.Traced.foundBy rows.now) row) labels.old }
+    ensures answer { result ≡ back_path (length rows.now) row (path_to (map R.Traced.found_from rows.now) (map R.Traced.found_by rows.now) row) (length labels.old) }
+    ensures labels { labels.new ≡ written result (path_to (map R.Traced.found_from rows.now) (map R.Traced.found_by rows.now) row) labels.old }
 {
     if row >= rows.len() {
         return Err(NoPath::NoRow);

@@ -59,9 +59,9 @@ impl Keyed<u8> for Step {
 }
 
 impl Traced for Step {
-    ghost foundFrom = { λ s. s.from };
+    ghost found_from = { λ s. s.from };
 
-    ghost foundBy = { λ s. s.label };
+    ghost found_by = { λ s. s.label };
 
     fn from(&self) -> usize {
         self.from

@@ -4,7 +4,7 @@ use mathlib.Core.Bool.{or-false, and-true, and-false}
 use lib.Bits.{bit_or}
 use Rattle.std.proofs.lemmas.Bool.{ltb-true, and_parts, cases_order, lt-leb, le-leb, lt-ltb, eq-eqb, ne_eqb}
 use Rattle.std.proofs.lemmas.Bool.Decides.{nat_tests}
-use Rattle.codes.specs.Codes.{bit_of, code_of, onlyBit}
+use Rattle.codes.specs.Codes.{bit_of, code_of, only_bit}
 use Rattle.codes.proofs.Codes.{code_ext, code_none, or_code, only_code, bit_code}
 use Rattle.events.specs.declared.event.Action.{Action}
 use Rattle.formula.specs.declared.node.Node.{Node}
@@ -13,8 +13,8 @@ use Rattle.formula.specs.Table.{node_at, Inside, inside, between, Sound}
 use Rattle.formula.specs.Step.{truth, eval}
 
 -- the code of one bit, where it has a place
-pub only_power : (s : ℕ) → s < 64 → onlyBit s ≡ 2 ^ s
-unfolding onlyBit
+pub only_power : (s : ℕ) → s < 64 → only_bit s ≡ 2 ^ s
+unfolding only_bit
 only_power s h = let low : ltb s 64 ≡ true = lt-ltb s 64 h in rw low
 
 between_parts : (i n f : ℕ) → between i n f ≡ true → (i < f) × (f < n)

@@ -57,8 +57,8 @@ module _ (t : List ℕ) (k : ℕ) (part rest : List ℕ) (e : drop k t ≡ part 
   part_passed = sym (drop-drop (length part) k t) ∙ ap (drop (length part)) e ∙ drop_at part rest (length part) refl
 
 -- a minus in the text
-pub minus-here : (t : List ℕ) (k : ℕ) → k < length t → begins_minus (drop k t) ≡ eqb (get_or t k 0) 45
-minus-here t k h = at_drop_more begins_minus t k 0 h
+pub minus_here : (t : List ℕ) (k : ℕ) → k < length t → begins_minus (drop k t) ≡ eqb (get_or t k 0) 45
+minus_here t k h = at_drop_more begins_minus t k 0 h
 
 pub minus_none : (t : List ℕ) (k : ℕ) → length t ≤ k → begins_minus (drop k t) ≡ false
 minus_none t k h = at_drop_all begins_minus t k h

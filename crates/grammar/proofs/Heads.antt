@@ -6,7 +6,7 @@ use Rattle.grammar.specs.Flaws.{flawed}
 use Rattle.grammar.specs.Machine.{is, num, int, rest, form, Sym, t, n, lits, later, run}
 use Rattle.grammar.specs.Reading.{place, run_at, far, Spelt, ReadsWord, ReadsOne, zipped, formula_words, line_words, tops, insides, inside, bodies, body, Known, Passed, ReadsHead, ReadsVerb}
 use Rattle.grammar.specs.declared.flaw.Flaw.{Flaw}
-use Rattle.grammar.proofs.Steps.{place-later, stops, at-end}
+use Rattle.grammar.proofs.Steps.{place_later, stops, at-end}
 use Rattle.grammar.proofs.Choice.{either, expand}
 
 -- P of each number below m
@@ -58,7 +58,7 @@ laters (suc k) o = later (laters k o)
 place_laters : (m i : ℕ) (o : Shape) → place i (laters m o) ≡ place (i + m) o
 place_laters zero i o = let e : i ≡ i + 0 = omega arith in ap (λ (k : ℕ). place k o) e
 place_laters (suc m) i o =
-    place-later i (laters m o) ∙ place_laters m (i + 1) o ∙ (let e : (i + 1) + m ≡ i + suc m = omega arith in ap (λ (k : ℕ). place k o) e)
+    place_later i (laters m o) ∙ place_laters m (i + 1) o ∙ (let e : (i + 1) + m ≡ i + suc m = omega arith in ap (λ (k : ℕ). place k o) e)
 
 -- where the word c stands, the rows S leave the row x only
 abbrev Hit : List (List Sym) → List ℕ → List Sym → List ℕ → Type 0

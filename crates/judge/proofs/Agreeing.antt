@@ -25,7 +25,7 @@ use Rattle.pairs.specs.Pairs.{pairs, moved}
 use Rattle.pairs.specs.Agreement.{Agree}
 use Rattle.pairs.specs.Judged.{Recorded}
 use Rattle.pairs.proofs.Agreement.{agreement}
-use Rattle.pairs.proofs.Steps.{given, next-moves, next-none}
+use Rattle.pairs.proofs.Steps.{given, next_moves, next-none}
 use Rattle.pairs.proofs.Reaching.{goes_reach}
 use Rattle.judge.specs.Tabled.{moved_as, tabled}
 
@@ -51,7 +51,7 @@ module _ (o : Opening) (es : List Event) (n : ℕ) (m : Meaning) (recorded : Rec
           (λ i may own. other (get_or es i blank) (one_answer es made.sound (cut_of x.cut) t (answer.Next (get_or es i blank)) f (i, may, own, refl) a))
 
       by_answer : (f : Follow) → Answers es (cut_of x.cut) t f → moved_as m x t f ≡ (pairs es n m).next x t
-      by_answer (answer.Next e) a = ap (λ (z : Event). Some (moved m x t z)) a.3 ∙ sym (next-moves es made.sound n m x t a.0 a.1 a.2)
+      by_answer (answer.Next e) a = ap (λ (z : Event). Some (moved m x t z)) a.3 ∙ sym (next_moves es made.sound n m x t a.0 a.1 a.2)
       by_answer answer.Done a = sym (nowhere answer.Done a (λ e h. let z : ◌≡◌ {A = ℕ} 0 1 = cc in omega arith))
       by_answer answer.Missing a = sym (nowhere answer.Missing a (λ e h. let z : ◌≡◌ {A = ℕ} 0 1 = cc in omega arith))
       by_answer answer.Blocked a = sym (nowhere answer.Blocked a (λ e h. let z : ◌≡◌ {A = ℕ} 0 1 = cc in omega arith))

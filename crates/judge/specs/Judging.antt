@@ -20,8 +20,8 @@ use Rattle.judge.specs.Viewed.{viewed}
 
 -- why nothing is judged, in the order of the numbers
 abbrev pub judge_tests : Opening → List Event → ℕ → ℕ → List (Bool × JudgeRefusal)
-judge_tests o es rowCount listLength =
-    (is_void o, refusal.Void) ∷ (nat_lt 65536 rowCount, refusal.Rows) ∷ (nat_lt listLength (length es), refusal.Threads) ∷ []
+judge_tests o es row_count list_length =
+    (is_void o, refusal.Void) ∷ (nat_lt 65536 row_count, refusal.Rows) ∷ (nat_lt list_length (length es), refusal.Threads) ∷ []
 
 -- The first n rows are all pairs that can be reached, and the rows beyond are as they were.
 pub record Listed (o : Opening) (es : List Event) (m : Meaning) (before after : List SearchRow) (n : ℕ) : Type 0 where

@@ -12,6 +12,6 @@ use Rattle.judge.specs.Judging.{Judged}
 abbrev pub JudgedOnce : Type 0
 JudgedOnce = (o : Opening) (es : List Event) (m : Meaning) → Noted o es → o.threads ≤ 8
     → (rows : List SearchRow) (list : List ℕ)
-    → (r s : Result Judgement JudgeRefusal) (rowsOfR rowsOfS : List SearchRow) (listOfR listOfS : List ℕ)
-    → Judged o es m rows list r rowsOfR listOfR → Judged o es m rows list s rowsOfS listOfS
-    → (r ≡ s) × (rowsOfR ≡ rowsOfS) × (listOfR ≡ listOfS)
+    → (r s : Result Judgement JudgeRefusal) (rows_of_r rows_of_s : List SearchRow) (list_of_r list_of_s : List ℕ)
+    → Judged o es m rows list r rows_of_r list_of_r → Judged o es m rows list s rows_of_s list_of_s
+    → (r ≡ s) × (rows_of_r ≡ rows_of_s) × (list_of_r ≡ list_of_s)

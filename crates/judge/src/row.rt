@@ -42,9 +42,9 @@ impl Keyed<Pair> for SearchRow {
 }
 
 impl Traced for SearchRow {
-    ghost foundFrom = { λ row. row.from };
+    ghost found_from = { λ row. row.from };
 
-    ghost foundBy = { λ row. row.thread };
+    ghost found_by = { λ row. row.thread };
 
     fn from(&self) -> usize {
         self.from

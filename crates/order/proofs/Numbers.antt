@@ -88,13 +88,13 @@ module _ (es : List Event) (sound : Sound es) (f t : ℕ) where
 
   -- the other way: a bound of that kind is the number
   module _ (c : ℕ) (h : (e : ℕ) → e < length es → thread_at es e ≡ t → (UpTo es e f → place_at es e ≤ c) × (place_at es e ≤ c → UpTo es e f)) where
-    record Up-to (n : ℕ) : Type 0 where
+    record NumberedUpTo (n : ℕ) : Type 0 where
       d : ℕ
       number : Number (λ e. (thread_at es e ≡ t) × UpTo es e f) n d
       below : count es t n ≤ c → d ≡ count es t n
       above : c ≤ count es t n → d ≡ c
 
-    number_up : (n : ℕ) → n ≤ length es → Up-to n
+    number_up : (n : ℕ) → n ≤ length es → NumberedUpTo n
     number_up zero l = record { d = 0; number = none; below = λ _. refl; above = λ k. omega arith }
     number_up (suc n) l =
         let ih = number_up n (omega arith) in

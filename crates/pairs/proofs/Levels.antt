@@ -20,7 +20,7 @@ use Rattle.monitor.specs.Meaning.{Meaning}
 use Rattle.pairs.specs.declared.pair.Pair.{Pair}
 use Rattle.pairs.specs.Pairs.{pair_of, pairs, full, hit, same, total, size_of}
 use Rattle.pairs.specs.Judged.{LeadsTo}
-use Rattle.pairs.proofs.Steps.{Given, cut-advanced, zeros, next-is}
+use Rattle.pairs.proofs.Steps.{Given, cut_advanced, zeros, next_is}
 use Rattle.pairs.proofs.Reaching.{decides_full}
 
 same_counts_eq : (c d : List ℕ) → same_counts c d ≡ true → c ≡ d
@@ -117,11 +117,11 @@ module _ (es : List Event) (n : ℕ) (m : Meaning) (g : Given es n) where
   cut_next x y t w s =
       let few = g.few in
       let below : t < n = s.0 in
-      ap (λ (z : Pair). cut_of z.cut) (next-is es g.sound n m x y t s.1).is ∙ cut-advanced x.cut t (omega arith)
+      ap (λ (z : Pair). cut_of z.cut) (next_is es g.sound n m x y t s.1).is ∙ cut_advanced x.cut t (omega arith)
 
   good_to : (x y : Pair) (t : ℕ) → Good x → Steps (pairs es n m) x t y → Good y
   good_to x y t h st =
-      let s = next-is es g.sound n m x y t st.1 in
+      let s = next_is es g.sound n m x y t st.1 in
       let i : ℕ = s.event in
       let c : Cut = cut_of x.cut in
       let at = cut_next x y t h.0 st in

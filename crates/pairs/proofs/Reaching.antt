@@ -19,7 +19,7 @@ use Rattle.monitor.proofs.Ends.{ran_push}
 use Rattle.pairs.specs.declared.pair.Pair.{Pair}
 use Rattle.pairs.specs.Pairs.{moved, first_pair, pairs, full}
 use Rattle.pairs.specs.Judged.{actions, LeadsTo, Comes, Paths}
-use Rattle.pairs.proofs.Steps.{Given, cut-advanced, first-cut, next-is, next-moves}
+use Rattle.pairs.proofs.Steps.{Given, cut_advanced, first_cut, next_is, next_moves}
 use Rattle.pairs.proofs.Agreement.{goes_more}
 
 pub decides_full : (es : List Event) (c : List ℕ) → Decides (full es c) (Full es (cut_of c))
@@ -48,13 +48,13 @@ module _ (es : List Event) (n : ℕ) (m : Meaning) (g : Given es n) where
     wide = w;
   }
   goes_onward (along {n = x} {m = z} {l = y} {a = t} {p = p} st go) r h w =
-      let s = next-is es g.sound n m x z t st.1 in
+      let s = next_is es g.sound n m x z t st.1 in
       let i : ℕ = s.event in
       let c : Cut = cut_of x.cut in
       let few = g.few in
       let below : t < n = st.0 in
       let cuts : cut_of z.cut ≡ advance (thread_at es i) c
-      = ap (λ (v : Pair). cut_of v.cut) s.is ∙ cut-advanced x.cut t (omega arith) ∙ ap (λ u. advance u c) (sym s.own) in
+      = ap (λ (v : Pair). cut_of v.cut) s.is ∙ cut_advanced x.cut t (omega arith) ∙ ap (λ u. advance u c) (sym s.own) in
       let ih = goes_onward go (r ++ i ∷ []) (subst (Reach es (r ++ i ∷ [])) (sym cuts) (onward i h s.follows))
       (ap (λ (v : Pair). length v.cut) s.is ∙ length-set x.cut t (get_or x.cut t 0 + 1) ∙ w) in
       record {
@@ -69,7 +69,7 @@ module _ (es : List Event) (n : ℕ) (m : Meaning) (g : Given es n) where
   pub goes_reach : (p : List ℕ) (x : Pair) → LeadsTo es n m p x
       → (r : List ℕ) × Reach es r (cut_of x.cut) × (thread_list es r ≡ p) × (x.code ≡ ran m (actions es r)) × (length x.cut ≡ 8)
   goes_reach p x go =
-      let s = goes_onward go [] (subst (Reach es []) (sym first-cut) start) refl in
+      let s = goes_onward go [] (subst (Reach es []) (sym first_cut) start) refl in
       (s.events, s.reach, s.lists, s.code, s.wide)
 
   record Back (r : List ℕ) (c : Cut) : Type 0 where
@@ -80,7 +80,7 @@ module _ (es : List Event) (n : ℕ) (m : Meaning) (g : Given es n) where
     wide : length pair.cut ≡ 8
 
   back : {r : List ℕ} {c : Cut} → Reach es r c → Back r c
-  back start = record { pair = first_pair m; leads = here; cut = first-cut; code = refl; wide = refl }
+  back start = record { pair = first_pair m; leads = here; cut = first_cut; code = refl; wide = refl }
   back (onward {r = r} {c = c} i h may) =
       let ih = back h in
       let x : Pair = ih.pair in
@@ -89,12 +89,12 @@ module _ (es : List Event) (n : ℕ) (m : Meaning) (g : Given es n) where
       let few = g.few in
       let below = g.threads i may.noted in
       let wide = ih.wide in
-      let step = next-moves es g.sound n m x t i (subst (λ d. MayFollow es d i) (sym ih.cut) may) refl in
+      let step = next_moves es g.sound n m x t i (subst (λ d. MayFollow es d i) (sym ih.cut) may) refl in
       record {
         pair = moved m x t (get_or es i blank);
         leads = subst (λ p. LeadsTo es n m p (moved m x t (get_or es i blank))) (sym (map-append (thread_at es) r (i ∷ [])))
             (goes_more (pairs es n m) ih.leads (below, step));
-        cut = cut-advanced x.cut t (omega arith) ∙ ap (advance t) ih.cut;
+        cut = cut_advanced x.cut t (omega arith) ∙ ap (advance t) ih.cut;
         code = ap (λ q. m.step q a) ih.code ∙ sym (ran_push m (actions es r) a) ∙ ap (ran m) (sym (actions_more es r i));
         wide = length-set x.cut t (get_or x.cut t 0 + 1) ∙ ih.wide;
       }

@@ -33,8 +33,8 @@ given o es n r = record {
   threads = λ i l. omega (arith, r.threads, (within_of o es r.noted).threads i l);
 }
 
-pub cut-advanced : (c : List ℕ) (t : ℕ) → t < length c → cut_of (advanced c t) ≡ advance t (cut_of c)
-cut-advanced c t l = fun_ext at
+pub cut_advanced : (c : List ℕ) (t : ℕ) → t < length c → cut_of (advanced c t) ≡ advance t (cut_of c)
+cut_advanced c t l = fun_ext at
   where
     at : (u : ℕ) → cut_of (advanced c t) u ≡ advance t (cut_of c) u
     at u =
@@ -50,8 +50,8 @@ zeros zero u = refl
 zeros (suc k) zero = refl
 zeros (suc k) (suc u) = zeros k u
 
-pub first-cut : cut_of (replicate 8 0) ≡ empty_cut
-first-cut = fun_ext (zeros 8)
+pub first_cut : cut_of (replicate 8 0) ≡ empty_cut
+first_cut = fun_ext (zeros 8)
 
 record Follows (es : List Event) (c : List ℕ) (t k i : ℕ) : Type 0 where
   noted : i < k
@@ -94,8 +94,8 @@ pub record Moves (es : List Event) (m : Meaning) (x y : Pair) (t : ℕ) : Type 0
   pub is : y ≡ moved m x t (get_or es event blank)
 
 module _ (es : List Event) (sound : Sound es) (n : ℕ) (m : Meaning) where
-  pub next-is : (x y : Pair) (t : ℕ) → (pairs es n m).next x t ≡ Some y → Moves es m x y t
-  next-is x y t e = go (follower es x.cut t (length es)) refl e
+  pub next_is : (x y : Pair) (t : ℕ) → (pairs es n m).next x t ≡ Some y → Moves es m x y t
+  next_is x y t e = go (follower es x.cut t (length es)) refl e
     where
       go : (o : Option ℕ) → follower es x.cut t (length es) ≡ o → moved_by es m x t o ≡ Some y → Moves es m x y t
       go None p q = let z : ◌≡◌ {A = ℕ} 0 1 = cc in absurd (omega arith)
@@ -103,9 +103,9 @@ module _ (es : List Event) (sound : Sound es) (n : ℕ) (m : Meaning) where
           let f = follower_is es x.cut t (length es) i p in
           record { event = i; follows = (decides_may_follow es sound (cut_of x.cut) i).0 f.follows; own = f.own; is = cc }
 
-  pub next-moves : (x : Pair) (t i : ℕ) → MayFollow es (cut_of x.cut) i → thread_at es i ≡ t
+  pub next_moves : (x : Pair) (t i : ℕ) → MayFollow es (cut_of x.cut) i → thread_at es i ≡ t
       → (pairs es n m).next x t ≡ Some (moved m x t (get_or es i blank))
-  next-moves x t i may own =
+  next_moves x t i may own =
       let c : Cut = cut_of x.cut in
       let h = follower_has es x.cut t (length es) i
       (record { noted = may.noted; own = own; follows = (decides_may_follow es sound c i).1 may }) in

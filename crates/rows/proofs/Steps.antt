@@ -11,13 +11,13 @@ first_step {R} p xs i x h e =
     ap (λ (l : List R). first_from p i l) (drop_more xs i x h)
     ∙ ap (λ (y : R). cond (p y) (Some i) (first_from p (i + 1) (drop (i + 1) xs))) (sym e)
 
-pub first-hit : {R : Type 0} (p : R → Bool) (xs : List R) (i : ℕ) (x : R) → i < length xs → x ≡ get_or xs i x → true ≡ p x
+pub first_hit : {R : Type 0} (p : R → Bool) (xs : List R) (i : ℕ) (x : R) → i < length xs → x ≡ get_or xs i x → true ≡ p x
     → first_from p i (drop i xs) ≡ Some i
-first-hit p xs i x h e t = first_step p xs i x h e ∙ ap (λ (b : Bool). cond b (Some i) (first_from p (i + 1) (drop (i + 1) xs))) (sym t)
+first_hit p xs i x h e t = first_step p xs i x h e ∙ ap (λ (b : Bool). cond b (Some i) (first_from p (i + 1) (drop (i + 1) xs))) (sym t)
 
-pub first-miss : {R : Type 0} (p : R → Bool) (xs : List R) (i : ℕ) (x : R) → i < length xs → x ≡ get_or xs i x → false ≡ p x
+pub first_miss : {R : Type 0} (p : R → Bool) (xs : List R) (i : ℕ) (x : R) → i < length xs → x ≡ get_or xs i x → false ≡ p x
     → first_from p i (drop i xs) ≡ first_from p (i + 1) (drop (i + 1) xs)
-first-miss p xs i x h e t = first_step p xs i x h e ∙ ap (λ (b : Bool). cond b (Some i) (first_from p (i + 1) (drop (i + 1) xs))) (sym t)
+first_miss p xs i x h e t = first_step p xs i x h e ∙ ap (λ (b : Bool). cond b (Some i) (first_from p (i + 1) (drop (i + 1) xs))) (sym t)
 
 -- where the row at the next place has not the key, no place up to it has
 pub none_more : {R K : Type 0} (keyed : R → K) (key : K) (xs : List R) (i : ℕ) (x : R) → i < length xs → x ≡ get_or xs i x

@@ -159,8 +159,8 @@ seen_some (token.Close p) = (_, refl)
 seen_some (token.Word w p) = (_, refl)
 seen_some (token.Number w p) = (_, refl)
 
-pub next-moves : (s e : Reader) (t : Token) → Next s.text.now s.at (Some t) e.at → s.at < e.at
-next-moves s e t n = let x = seen_some t in omega (arith, n.end, token_moves s.text.now s.at x.0 (sym n.token ∙ x.1))
+pub next_moves : (s e : Reader) (t : Token) → Next s.text.now s.at (Some t) e.at → s.at < e.at
+next_moves s e t n = let x = seen_some t in omega (arith, n.end, token_moves s.text.now s.at x.0 (sym n.token ∙ x.1))
 
 -- no token is left, so all pieces were passed
 ended_at : (whole : List Piece) (s e : Reader) (ps qs : List Piece) → Stand whole s ps → trim ps ≡ qs → Moved s e → None ≡ ahead s.text.now s.at → All InRange whole

@@ -16,7 +16,7 @@ use Rattle.text.specs.declared.token.Sort.{Sort}
 use Rattle.text.specs.declared.token.Sort.TheVariants.{Word, Number}
 use Rattle.text.specs.Places.{byte_place}
 use Rattle.text.specs.Ranges.{FirstOut, InRange}
-use Rattle.text.specs.Tokens.{Lexeme, ahead, begins, leftBracket, letters, lexeme, lexeme_as, numeral, is_of_kind, placed, rightBracket, run, size, skip, sort_of_byte}
+use Rattle.text.specs.Tokens.{Lexeme, ahead, begins, left_bracket, letters, lexeme, lexeme_as, numeral, is_of_kind, placed, right_bracket, run, size, skip, sort_of_byte}
 use Rattle.text.specs.Standing.{Moved, Neat, Stand, Stops, token_of, trim}
 use Rattle.text.proofs.Numerals.{small_range}
 
@@ -208,8 +208,8 @@ pub trim_token : (ps : List Piece) (p : Piece) (rest : List Piece) → trim ps �
 trim_token [] p rest e = let z : ◌≡◌ {A = ℕ} 0 1 = cc in let n : ⊥ = omega arith in elim n [ ]
 trim_token (blank ∷ ps) p rest e = trim_token ps p rest e
 trim_token (newline ∷ ps) p rest e = trim_token ps p rest e
-trim_token (opening ∷ ps) p rest e = let same : p ≡ opening = cc in (leftBracket, ap token_of same)
-trim_token (closing ∷ ps) p rest e = let same : p ≡ closing = cc in (rightBracket, ap token_of same)
+trim_token (opening ∷ ps) p rest e = let same : p ≡ opening = cc in (left_bracket, ap token_of same)
+trim_token (closing ∷ ps) p rest e = let same : p ≡ closing = cc in (right_bracket, ap token_of same)
 trim_token (word w ∷ ps) p rest e = let same : p ≡ word w = cc in (letters w, ap token_of same)
 trim_token (small n ∷ ps) p rest e = let same : p ≡ small n = cc in (numeral (decimal n), ap token_of same)
 trim_token (wide z ∷ ps) p rest e = let same : p ≡ wide z = cc in (numeral (signed_decimal z), ap token_of same)

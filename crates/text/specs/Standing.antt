@@ -14,7 +14,7 @@ use Rattle.text.specs.declared.reader.Reader.{Reader}
 use Rattle.text.specs.declared.token.Kind.TheVariants.{Letter}
 use Rattle.text.specs.Places.{byte_place}
 use Rattle.text.specs.Ranges.{FirstOut, InRange}
-use Rattle.text.specs.Tokens.{Lexeme, leftBracket, rightBracket, letters, numeral, passed, run}
+use Rattle.text.specs.Tokens.{Lexeme, left_bracket, right_bracket, letters, numeral, passed, run}
 
 -- no letter or digit comes next
 abbrev pub Stops : List Piece → Type 0
@@ -51,8 +51,8 @@ trim (wide z ∷ ps) = wide z ∷ ps
 
 -- the token that a piece is read as; blanks and line ends are passed
 abbrev pub token_of : Piece → Option Lexeme
-token_of opening = Some leftBracket
-token_of closing = Some rightBracket
+token_of opening = Some left_bracket
+token_of closing = Some right_bracket
 token_of blank = None
 token_of newline = None
 token_of (word w) = Some (letters w)

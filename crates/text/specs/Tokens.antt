@@ -47,14 +47,14 @@ sort_of (c ∷ cs) = sort_of_byte c (begins Digit cs)
 
 -- a token apart from its place
 pub data Lexeme : Type 0 where
-  leftBracket rightBracket : Lexeme
+  left_bracket right_bracket : Lexeme
   letters numeral : List ℕ → Lexeme
 
 -- a word is a run of letters, and a number a run of digits behind its first byte
 abbrev pub lexeme_as : Option Sort → List ℕ → Option Lexeme
 lexeme_as None bs = None
-lexeme_as (Some Open) bs = Some leftBracket
-lexeme_as (Some Close) bs = Some rightBracket
+lexeme_as (Some Open) bs = Some left_bracket
+lexeme_as (Some Close) bs = Some right_bracket
 lexeme_as (Some Word) bs = Some (letters (take (suc (run Letter (drop 1 bs))) bs))
 lexeme_as (Some Number) bs = Some (numeral (take (suc (run Digit (drop 1 bs))) bs))
 
@@ -65,8 +65,8 @@ lexeme bs = lexeme_as (sort_of bs) bs
 -- how many bytes it takes
 abbrev pub size : Option Lexeme → ℕ
 size None = 0
-size (Some leftBracket) = 1
-size (Some rightBracket) = 1
+size (Some left_bracket) = 1
+size (Some right_bracket) = 1
 size (Some (letters w)) = length w
 size (Some (numeral w)) = length w
 
@@ -77,8 +77,8 @@ placed (Some x) p = Some (x, p)
 
 abbrev pub seen : Option Token → Option (Lexeme × Place)
 seen None = None
-seen (Some (token.Open p)) = Some (leftBracket, p)
-seen (Some (token.Close p)) = Some (rightBracket, p)
+seen (Some (token.Open p)) = Some (left_bracket, p)
+seen (Some (token.Close p)) = Some (right_bracket, p)
 seen (Some (token.Word w p)) = Some (letters w.now, p)
 seen (Some (token.Number w p)) = Some (numeral w.now, p)
 
@@ -100,8 +100,8 @@ pub record Next (t : List ℕ) (k : ℕ) (r : Option Token) (e : ℕ) : Type 0 w
 
 -- the bytes and the place of a token that is a number
 abbrev pub numeral_at : Lexeme → Place → Option (List ℕ × Place)
-numeral_at leftBracket p = None
-numeral_at rightBracket p = None
+numeral_at left_bracket p = None
+numeral_at right_bracket p = None
 numeral_at (letters w) p = None
 numeral_at (numeral w) p = Some (w, p)
 
@@ -116,8 +116,8 @@ handed (Some x) = Some (x.0.now, x.1)
 
 -- the bytes of a token that is a word
 abbrev pub letters_of : Lexeme → Option (List ℕ)
-letters_of leftBracket = None
-letters_of rightBracket = None
+letters_of left_bracket = None
+letters_of right_bracket = None
 letters_of (letters w) = Some w
 letters_of (numeral w) = None
 

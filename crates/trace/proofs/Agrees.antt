@@ -14,7 +14,7 @@ use Rattle.rows.specs.declared.list.Rows.{Rows}
 use Rattle.rows.specs.Listed.{lent, count, listed, roomy}
 use Rattle.trace.specs.declared.state.State.{State}
 use Rattle.trace.specs.Fields.{opening_in}
-use Rattle.trace.specs.Steps.{subjectsIn, stepTests}
+use Rattle.trace.specs.Steps.{subjects_in, step_tests}
 use Rattle.trace.proofs.Invariant.{Kept, same_lock_lem}
 
 -- Two lists of reasons are alike where their tests agree, each wherever those ahead of it fail.
@@ -54,12 +54,12 @@ release_subjects : (o : Opening) (k : ℕ) → eqb k 4 ≡ true → subjects o k
 release_subjects o k h = ap (subjects o) (eqb-true k 4 h)
 
 pub refused_is : (s : State) (rows : Rows Event) (a : Action) → Kept s rows
-    → refused (opening_in s rows) (listed rows) a ≡ first_fit (stepTests s (roomy rows) a)
+    → refused (opening_in s rows) (listed rows) a ≡ first_fit (step_tests s (roomy rows) a)
 refused_is s rows a k =
     let o = opening_in s rows in
     let es = listed rows in
-    let many : subjects o a.kind ≡ subjectsIn s a.kind = ap (λ (n : ℕ). cond (eqb a.kind 0) 32 (cond (ltb a.kind 3) n 16)) k.variables_are in
-    alike_first (note_tests o es a) (stepTests s (roomy rows) a)
+    let many : subjects o a.kind ≡ subjects_in s a.kind = ap (λ (n : ℕ). cond (eqb a.kind 0) 32 (cond (ltb a.kind 3) n 16)) k.variables_are in
+    alike_first (note_tests o es a) (step_tests s (roomy rows) a)
     (agree (void_is s.void s.threads (take s.variables s.starts) (length (lent rows)))
     (λ opened. agree (ap (λ (n : ℕ). leb n a.thread) k.threads_are)
     (λ thread. agree refl

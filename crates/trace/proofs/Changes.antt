@@ -11,10 +11,10 @@ use Rattle.events.specs.declared.refusal.Refusal.{Refusal}
 use Rattle.events.specs.First.{first_fit}
 use Rattle.events.specs.Kinds.{kind_number}
 use Rattle.trace.specs.declared.state.State.{State}
-use Rattle.trace.specs.Steps.{lockTests, or_else, after, lockBy, changedTo, changed}
+use Rattle.trace.specs.Steps.{lock_tests, or_else, after, lock_by, changed_to, changed}
 
-same_fields : (s : State) (vs ws : List ℤ) (ks ls : List Lock) → vs ≡ ws → ks ≡ ls → changedTo s vs ks ≡ changedTo s ws ls
-same_fields s vs ws ks ls e f = ap (λ (us : List ℤ). changedTo s us ks) e ∙ ap (λ (us : List Lock). changedTo s ws us) f
+same_fields : (s : State) (vs ws : List ℤ) (ks ls : List Lock) → vs ≡ ws → ks ≡ ls → changed_to s vs ks ≡ changed_to s ws ls
+same_fields s vs ws ks ls e f = ap (λ (us : List ℤ). changed_to s us ks) e ∙ ap (λ (us : List Lock). changed_to s ws us) f
 
 -- a value that is kept, and a lock that is kept
 kept_value : (s : State) (a : Action) → set s.values a.subject (get_or s.values a.subject (pos 0)) ≡ s.values
@@ -25,8 +25,8 @@ kept_lock s a = set-get_or s.locks a.subject Free
 
 -- the lock's turn, and what it answered
 pub turned : (s : State) (k : Kind) (a : Action) (r : Result (Unit {0}) Refusal) (l : Lock) → ltb 2 (kind_number k) ≡ true
-    → l ≡ after r (lockBy (kind_number k) a.thread (get_or s.locks a.subject Free)) (get_or s.locks a.subject Free)
-    → changedTo s s.values (set s.locks a.subject l) ≡ after r (changed s (kind_number k) a) s
+    → l ≡ after r (lock_by (kind_number k) a.thread (get_or s.locks a.subject Free)) (get_or s.locks a.subject Free)
+    → changed_to s s.values (set s.locks a.subject l) ≡ after r (changed s (kind_number k) a) s
 turned s Internal a r l h e = absurd (false≢true h)
 turned s Read a r l h e = absurd (false≢true h)
 turned s Write a r l h e = absurd (false≢true h)
@@ -37,7 +37,7 @@ turned s Release a (Err w) l h e = same_fields s _ _ _ _ refl (ap (set s.locks a
 
 -- no lock refuses an event of another kind
 pub room_alone : (l : Lock) (k : Kind) (t : ℕ) (room : Result (Unit {0}) Refusal) → ltb (kind_number k) 3 ≡ true
-    → room ≡ or_else (first_fit (lockTests l (kind_number k) t)) room
+    → room ≡ or_else (first_fit (lock_tests l (kind_number k) t)) room
 room_alone l Internal t room h = refl
 room_alone l Read t room h = refl
 room_alone l Write t room h = refl
@@ -45,7 +45,7 @@ room_alone l Acquire t room h = absurd (false≢true h)
 room_alone l Release t room h = absurd (false≢true h)
 
 pub written : (s : State) (k : Kind) (a : Action) (v : ℤ) → k ≡ Write → v ≡ a.value
-    → changedTo s (set s.values a.subject v) s.locks ≡ changed s (kind_number k) a
+    → changed_to s (set s.values a.subject v) s.locks ≡ changed s (kind_number k) a
 written s k a v e f =
     same_fields s _ _ _ _ (ap (set s.values a.subject) f) (sym (kept_lock s a)) ∙ ap (λ (j : Kind). changed s (kind_number j) a) (sym e)
 

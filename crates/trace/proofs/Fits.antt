@@ -6,7 +6,7 @@ use Rattle.events.specs.declared.refusal.Refusal.{Refusal}
 use Rattle.events.specs.declared.refusal.Refusal.TheVariants.{ThreadFull, RowsFull}
 use Rattle.events.specs.First.{first_fit}
 use Rattle.trace.specs.declared.state.State.{State}
-use Rattle.trace.specs.Steps.{formTests, valueTests, lockTests, roomTests, stepTests, told, or_else, placed}
+use Rattle.trace.specs.Steps.{form_tests, value_tests, lock_tests, room_tests, step_tests, told, or_else, placed}
 
 -- where a part gives the reason, the whole does
 pub fit_here : {R : Type 0} (xs ys : List (Bool × R)) (why : R) → first_fit xs ≡ Some why → first_fit (xs ++ ys) ≡ Some why
@@ -58,46 +58,46 @@ else_told (x ∷ xs) ys = at x.0 (else_told xs ys)
 
 -- the reasons after the action's form, and after its value
 abbrev later : State → Bool → Action → List (Bool × Refusal)
-later s spare a = lockTests (get_or s.locks a.subject Free) a.kind a.thread ++ roomTests s spare a.thread
+later s spare a = lock_tests (get_or s.locks a.subject Free) a.kind a.thread ++ room_tests s spare a.thread
 
 abbrev weighed : State → Bool → Action → List (Bool × Refusal)
-weighed s spare a = valueTests s a.kind a.subject a.value ++ later s spare a
+weighed s spare a = value_tests s a.kind a.subject a.value ++ later s spare a
 
 -- a step is refused for the action's form
-pub step_form : (s : State) (spare : Bool) (a : Action) (why : Refusal) → first_fit (formTests s a) ≡ Some why → first_fit (stepTests s spare a) ≡ Some why
-step_form s spare a why h = fit_here (formTests s a) (weighed s spare a) why h
+pub step_form : (s : State) (spare : Bool) (a : Action) (why : Refusal) → first_fit (form_tests s a) ≡ Some why → first_fit (step_tests s spare a) ≡ Some why
+step_form s spare a why h = fit_here (form_tests s a) (weighed s spare a) why h
 
 -- where that is right, for its value v; k is the number of its kind
-pub step_value : (s : State) (spare : Bool) (a : Action) (k : ℕ) (v : ℤ) (why : Refusal) → first_fit (formTests s a) ≡ None → k ≡ a.kind → v ≡ a.value
-    → Err why ≡ told (first_fit (valueTests s k a.subject v))
-    → first_fit (stepTests s spare a) ≡ Some why
+pub step_value : (s : State) (spare : Bool) (a : Action) (k : ℕ) (v : ℤ) (why : Refusal) → first_fit (form_tests s a) ≡ None → k ≡ a.kind → v ≡ a.value
+    → Err why ≡ told (first_fit (value_tests s k a.subject v))
+    → first_fit (step_tests s spare a) ≡ Some why
 step_value s spare a k v why form kind same h =
-    fit_later (formTests s a) (weighed s spare a) form
-    ∙ fit_here (valueTests s a.kind a.subject a.value) (later s spare a) why
-    (ap (λ (n : ℕ). first_fit (valueTests s n a.subject a.value)) (sym kind)
-    ∙ ap (λ (w : ℤ). first_fit (valueTests s k a.subject w)) (sym same)
-    ∙ told_err (first_fit (valueTests s k a.subject v)) why h)
+    fit_later (form_tests s a) (weighed s spare a) form
+    ∙ fit_here (value_tests s a.kind a.subject a.value) (later s spare a) why
+    (ap (λ (n : ℕ). first_fit (value_tests s n a.subject a.value)) (sym kind)
+    ∙ ap (λ (w : ℤ). first_fit (value_tests s k a.subject w)) (sym same)
+    ∙ told_err (first_fit (value_tests s k a.subject v)) why h)
 
 -- where form and value are right, by its lock or for want of room
-pub step_lock : (s : State) (spare : Bool) (a : Action) (k : ℕ) (v : ℤ) (x : Unit {0}) → first_fit (formTests s a) ≡ None → k ≡ a.kind → v ≡ a.value
-    → Ok x ≡ told (first_fit (valueTests s k a.subject v))
-    → or_else (first_fit (lockTests (get_or s.locks a.subject Free) k a.thread)) (told (first_fit (roomTests s spare a.thread))) ≡ told (first_fit (stepTests s spare a))
+pub step_lock : (s : State) (spare : Bool) (a : Action) (k : ℕ) (v : ℤ) (x : Unit {0}) → first_fit (form_tests s a) ≡ None → k ≡ a.kind → v ≡ a.value
+    → Ok x ≡ told (first_fit (value_tests s k a.subject v))
+    → or_else (first_fit (lock_tests (get_or s.locks a.subject Free) k a.thread)) (told (first_fit (room_tests s spare a.thread))) ≡ told (first_fit (step_tests s spare a))
 step_lock s spare a k v x form kind same value =
-    ap (λ (n : ℕ). or_else (first_fit (lockTests (get_or s.locks a.subject Free) n a.thread)) (told (first_fit (roomTests s spare a.thread)))) kind
-    ∙ else_told (lockTests (get_or s.locks a.subject Free) a.kind a.thread) (roomTests s spare a.thread)
+    ap (λ (n : ℕ). or_else (first_fit (lock_tests (get_or s.locks a.subject Free) n a.thread)) (told (first_fit (room_tests s spare a.thread)))) kind
+    ∙ else_told (lock_tests (get_or s.locks a.subject Free) a.kind a.thread) (room_tests s spare a.thread)
     ∙ ap told (sym
-    (fit_later (formTests s a) (weighed s spare a) form
-    ∙ fit_later (valueTests s a.kind a.subject a.value) (later s spare a)
-    (ap (λ (n : ℕ). first_fit (valueTests s n a.subject a.value)) (sym kind)
-    ∙ ap (λ (w : ℤ). first_fit (valueTests s k a.subject w)) (sym same)
-    ∙ told_ok (first_fit (valueTests s k a.subject v)) x value)))
+    (fit_later (form_tests s a) (weighed s spare a) form
+    ∙ fit_later (value_tests s a.kind a.subject a.value) (later s spare a)
+    (ap (λ (n : ℕ). first_fit (value_tests s n a.subject a.value)) (sym kind)
+    ∙ ap (λ (w : ℤ). first_fit (value_tests s k a.subject w)) (sym same)
+    ∙ told_ok (first_fit (value_tests s k a.subject v)) x value)))
 
 -- a step that is not refused has a spare row
-pub step_spare : (s : State) (spare : Bool) (a : Action) → first_fit (stepTests s spare a) ≡ None → spare ≡ true
+pub step_spare : (s : State) (spare : Bool) (a : Action) → first_fit (step_tests s spare a) ≡ None → spare ≡ true
 step_spare s true a h = refl
 step_spare s false a h =
-    let room = fit_rest (lockTests (get_or s.locks a.subject Free) a.kind a.thread) (roomTests s false a.thread)
-    (fit_rest (valueTests s a.kind a.subject a.value) (later s false a) (fit_rest (formTests s a) (weighed s false a) h)) in
+    let room = fit_rest (lock_tests (get_or s.locks a.subject Free) a.kind a.thread) (room_tests s false a.thread)
+    (fit_rest (value_tests s a.kind a.subject a.value) (later s false a) (fit_rest (form_tests s a) (weighed s false a) h)) in
     let rows = fit_none (leb 255 (get_or s.counts a.thread 0)) ThreadFull (Some RowsFull) room in
     let some = rows.1 in
     let z : ◌≡◌ {A = ℕ} 0 1 = cc in absurd (omega arith)

@@ -14,7 +14,7 @@ use Rattle.rows.specs.declared.list.Rows.{Rows}
 use Rattle.rows.specs.Listed.{lent, count, listed}
 use Rattle.trace.specs.declared.state.State.{State}
 use Rattle.trace.specs.Fields.{opening_in}
-use Rattle.trace.specs.Steps.{lockBy, stepped}
+use Rattle.trace.specs.Steps.{lock_by, stepped}
 use Rattle.trace.proofs.Invariant.{Kept, same_lock_lem, lock_same}
 
 -- one entry is changed, and the others stay
@@ -73,7 +73,7 @@ kept_more s rows rows' a k ok more room within =
           ∙ ap (λ (p : Opening). value_now p (listed rows') x) (sym same);
       locked = λ l h.
           lock_same _ _
-          (set_entry s.locks a.subject l Free (lockBy a.kind a.thread) (omega arith)
+          (set_entry s.locks a.subject l Free (lock_by a.kind a.thread) (omega arith)
           ∙ two_ways (eqb a.kind 3) (eqb a.kind 4) (eqb a.subject l) (Held a.thread) Free (get_or s.locks l Free)
           ∙ ap (λ (m : Lock). cond (is_of 3 l e) (Held a.thread) (cond (is_of 4 l e) Free m)) (same_lock_lem (get_or s.locks l Free) (lock_now es l) (k.locked l h))
           ∙ sym (lock_after_push Free l es e)

@@ -15,7 +15,7 @@ use Rattle.trace.specs.declared.state.State.{State}
 use Rattle.trace.specs.declared.Trace.{Trace}
 use Rattle.trace.specs.Meaning.{opening_of, noted_of, rows_of, action_by, refused_by, rows_after, KeptBy}
 use Rattle.trace.specs.Fields.{opening_in}
-use Rattle.trace.specs.Steps.{stepTests, nextPlace, placed, stepped}
+use Rattle.trace.specs.Steps.{step_tests, next_place, placed, stepped}
 use Rattle.trace.proofs.Invariant.{Kept}
 use Rattle.trace.proofs.Grows.{kept_more}
 use Rattle.trace.proofs.Same.{same_trace}
@@ -39,12 +39,12 @@ kept_of t =
       accepted_all = t.noted;
     }
 
-refused_by_lem : (t : Trace) (a : Action) (spare : Bool) → spare ≡ roomy t.rows → refused_by t a ≡ first_fit (stepTests t.state spare a)
-refused_by_lem t a spare e = refused_is t.state t.rows a (kept_of t) ∙ ap (λ (b : Bool). first_fit (stepTests t.state b a)) (sym e)
+refused_by_lem : (t : Trace) (a : Action) (spare : Bool) → spare ≡ roomy t.rows → refused_by t a ≡ first_fit (step_tests t.state spare a)
+refused_by_lem t a spare e = refused_is t.state t.rows a (kept_of t) ∙ ap (λ (b : Bool). first_fit (step_tests t.state b a)) (sym e)
 
 note_refused : (t : Trace) (a : Action) (spare : Bool) (why : Refusal) → spare ≡ roomy t.rows
-    → Err why ≡ placed (first_fit (stepTests t.state spare a)) (nextPlace t.state a.thread) → refused_by t a ≡ Some why
-note_refused t a spare why e h = refused_by_lem t a spare e ∙ placed_err (first_fit (stepTests t.state spare a)) (nextPlace t.state a.thread) why h
+    → Err why ≡ placed (first_fit (step_tests t.state spare a)) (next_place t.state a.thread) → refused_by t a ≡ Some why
+note_refused t a spare why e h = refused_by_lem t a spare e ∙ placed_err (first_fit (step_tests t.state spare a)) (next_place t.state a.thread) why h
 
 record Taken (t : Trace) (a : Action) (place : ℕ) : Type 0 where
   pub not_refused_lem : refused_by t a ≡ None
@@ -52,10 +52,10 @@ record Taken (t : Trace) (a : Action) (place : ℕ) : Type 0 where
   pub place_is : place ≡ suc (count_of a.thread (noted_of t))
 
 note_taken : (t : Trace) (a : Action) (spare : Bool) (place : ℕ) → spare ≡ roomy t.rows
-    → Ok place ≡ placed (first_fit (stepTests t.state spare a)) (nextPlace t.state a.thread) → Taken t a place
+    → Ok place ≡ placed (first_fit (step_tests t.state spare a)) (next_place t.state a.thread) → Taken t a place
 note_taken t a spare place e h =
     let k = kept_of t in
-    let p = placed_ok (first_fit (stepTests t.state spare a)) (nextPlace t.state a.thread) place h in
+    let p = placed_ok (first_fit (step_tests t.state spare a)) (next_place t.state a.thread) place h in
     let r : refused_by t a ≡ None = refused_by_lem t a spare e ∙ p.0 in
     let void = fit_none (is_void (opening_of t)) refusal.Void _ r in
     let thread = fit_none (leb (opening_of t).threads a.thread) refusal.Thread _ void.1 in
@@ -84,7 +84,7 @@ pub record Grown (t : Trace) (a : Action) (place : ℕ) (s : State) (rows : Rows
   pub keeps : Kept s rows
 
 note_grown : (t : Trace) (a : Action) (spare : Bool) (place : ℕ) (s : State) (rows : Rows Event) → spare ≡ roomy t.rows
-    → Ok place ≡ placed (first_fit (stepTests t.state spare a)) (nextPlace t.state a.thread)
+    → Ok place ≡ placed (first_fit (step_tests t.state spare a)) (next_place t.state a.thread)
     → s ≡ stepped t.state a
     → count rows ≡ cond (roomy t.rows) (count t.rows + 1) (count t.rows)
     → lent rows ≡ cond (roomy t.rows) (set (lent t.rows) (count t.rows) (event_at place a)) (lent t.rows)
@@ -119,7 +119,7 @@ spare_is t len all e f = ap (λ (n : ℕ). ltb n all) e ∙ ap (ltb (count t.row
 -- from the calls that a note makes: v is the value as it is handed on, len and all how many rows are used and lent
 pub note_gives : (t : Trace) (thread kind subject : ℕ) (value v : ℤ) (len all place : ℕ) (s : State) (rows : Rows Event)
     → v ≡ value → len ≡ count t.rows → all ≡ length (lent t.rows)
-    → Ok place ≡ placed (first_fit (stepTests t.state (ltb len all) (action_by thread kind subject v))) (nextPlace t.state thread)
+    → Ok place ≡ placed (first_fit (step_tests t.state (ltb len all) (action_by thread kind subject v))) (next_place t.state thread)
     → s ≡ stepped t.state (action_by thread kind subject v)
     → count rows ≡ cond (roomy t.rows) (count t.rows + 1) (count t.rows)
     → lent rows ≡ cond (roomy t.rows) (set (lent t.rows) (count t.rows) (event_at place (action_by thread kind subject v))) (lent t.rows)
@@ -131,7 +131,7 @@ note_gives t thread kind subject value v len all place s rows same used lents sa
 
 pub note_refuses : (t : Trace) (thread kind subject : ℕ) (value v : ℤ) (len all : ℕ) (why : Refusal)
     → v ≡ value → len ≡ count t.rows → all ≡ length (lent t.rows)
-    → Err why ≡ placed (first_fit (stepTests t.state (ltb len all) (action_by thread kind subject v))) (nextPlace t.state thread)
+    → Err why ≡ placed (first_fit (step_tests t.state (ltb len all) (action_by thread kind subject v))) (next_place t.state thread)
     → refused_by t (action_by thread kind subject value) ≡ Some why
 note_refuses t thread kind subject value v len all why same used lents says =
     ap (λ (w : ℤ). refused_by t (action_by thread kind subject w)) (sym same)

@@ -12,37 +12,37 @@ use Rattle.events.specs.Noting.{eq_z, free, held_by}
 use Rattle.trace.specs.declared.state.State.{State}
 
 -- how many subjects a kind has: labels, variables or locks
-abbrev pub subjectsIn : State → ℕ → ℕ
-subjectsIn s k = cond (k == 0) 32 (cond (nat_lt k 3) s.variables 16)
+abbrev pub subjects_in : State → ℕ → ℕ
+subjects_in s k = cond (k == 0) 32 (cond (nat_lt k 3) s.variables 16)
 
 -- why an action is refused for its form: numbers 9 to 13
-abbrev pub formTests : State → Action → List (Bool × Refusal)
-formTests s a =
+abbrev pub form_tests : State → Action → List (Bool × Refusal)
+form_tests s a =
     (is_some s.void, refusal.Void)
     ∷ (nat_le s.threads a.thread, refusal.Thread)
     ∷ (nat_lt 4 a.kind, refusal.Kind)
-    ∷ (nat_le (subjectsIn s a.kind) a.subject, refusal.Subject)
+    ∷ (nat_le (subjects_in s a.kind) a.subject, refusal.Subject)
     ∷ []
 
 -- why the value of a kind's event at a subject is refused: numbers 14 and 15
-abbrev pub valueTests : State → ℕ → ℕ → ℤ → List (Bool × Refusal)
-valueTests s k x v = (nat_lt 2 k && not (eq_z v (pos 0)), refusal.LockValue) ∷ (k == 1 && not (eq_z v (slice_index_or s.values x (pos 0))), refusal.ReadValue) ∷ []
+abbrev pub value_tests : State → ℕ → ℕ → ℤ → List (Bool × Refusal)
+value_tests s k x v = (nat_lt 2 k && not (eq_z v (pos 0)), refusal.LockValue) ∷ (k == 1 && not (eq_z v (slice_index_or s.values x (pos 0))), refusal.ReadValue) ∷ []
 
 -- why a lock refuses a thread's event of kind k: numbers 16 and 17
-abbrev pub lockTests : Lock → ℕ → ℕ → List (Bool × Refusal)
-lockTests l k t = (k == 3 && not (free l), refusal.Held) ∷ (k == 4 && not (held_by t l), refusal.NotHolder) ∷ []
+abbrev pub lock_tests : Lock → ℕ → ℕ → List (Bool × Refusal)
+lock_tests l k t = (k == 3 && not (free l), refusal.Held) ∷ (k == 4 && not (held_by t l), refusal.NotHolder) ∷ []
 
 -- why there is no room for one more event of thread t: numbers 18 and 19. A row is spare, or none is
-abbrev pub roomTests : State → Bool → ℕ → List (Bool × Refusal)
-roomTests s spare t = (nat_le 255 (slice_index s.counts t), refusal.ThreadFull) ∷ (not spare, refusal.RowsFull) ∷ []
+abbrev pub room_tests : State → Bool → ℕ → List (Bool × Refusal)
+room_tests s spare t = (nat_le 255 (slice_index s.counts t), refusal.ThreadFull) ∷ (not spare, refusal.RowsFull) ∷ []
 
 -- all of them, in the order of the numbers
-abbrev pub stepTests : State → Bool → Action → List (Bool × Refusal)
-stepTests s spare a =
-    formTests s a
-    ++ (valueTests s a.kind a.subject a.value
-    ++ (lockTests (slice_index_or s.locks a.subject Free) a.kind a.thread
-    ++ roomTests s spare a.thread))
+abbrev pub step_tests : State → Bool → Action → List (Bool × Refusal)
+step_tests s spare a =
+    form_tests s a
+    ++ (value_tests s a.kind a.subject a.value
+    ++ (lock_tests (slice_index_or s.locks a.subject Free) a.kind a.thread
+    ++ room_tests s spare a.thread))
 
 -- a check's answer, where the reason to refuse is given
 abbrev pub told : Option Refusal → Result (Unit {0}) Refusal
@@ -56,8 +56,8 @@ or_else None later = later
 
 -- the kind of an action that is right in form, or why it is refused
 abbrev pub Admitted : State → Action → Result Kind Refusal → Type 0
-Admitted s a (Ok k) = (first_fit (formTests s a) ≡ None) × (a.thread < s.threads) × (a.subject < subjectsIn s (kind_number k)) × (kind_number k ≡ a.kind)
-Admitted s a (Err why) = first_fit (formTests s a) ≡ Some why
+Admitted s a (Ok k) = (first_fit (form_tests s a) ≡ None) × (a.thread < s.threads) × (a.subject < subjects_in s (kind_number k)) × (kind_number k ≡ a.kind)
+Admitted s a (Err why) = first_fit (form_tests s a) ≡ Some why
 
 -- the place of an event that is not refused
 abbrev pub placed : Option Refusal → ℕ → Result ℕ Refusal
@@ -70,12 +70,12 @@ after (Ok x) new old = new
 after (Err why) new old = old
 
 -- the lock after a thread's event of kind k
-abbrev pub lockBy : ℕ → ℕ → Lock → Lock
-lockBy k t l = cond (k == 3) (Held t) (cond (k == 4) Free l)
+abbrev pub lock_by : ℕ → ℕ → Lock → Lock
+lock_by k t l = cond (k == 3) (Held t) (cond (k == 4) Free l)
 
 -- the state with other values and locks
-abbrev pub changedTo : State → List ℤ → List Lock → State
-changedTo s vs ls =
+abbrev pub changed_to : State → List ℤ → List Lock → State
+changed_to s vs ls =
     record {
       void = s.void;
       threads = s.threads;
@@ -89,13 +89,13 @@ changedTo s vs ls =
 -- the state after an action of kind k, but for the count
 abbrev pub changed : State → ℕ → Action → State
 changed s k a =
-    changedTo s
+    changed_to s
     (slice_set s.values a.subject (cond (k == 2) a.value (slice_index_or s.values a.subject (pos 0))))
-    (slice_set s.locks a.subject (lockBy k a.thread (slice_index_or s.locks a.subject Free)))
+    (slice_set s.locks a.subject (lock_by k a.thread (slice_index_or s.locks a.subject Free)))
 
 -- the place of a thread's next event
-abbrev pub nextPlace : State → ℕ → ℕ
-nextPlace s t = suc (slice_index s.counts t)
+abbrev pub next_place : State → ℕ → ℕ
+next_place s t = suc (slice_index s.counts t)
 
 abbrev pub counted : State → ℕ → State
 counted s t =
@@ -106,7 +106,7 @@ counted s t =
       starts = s.starts;
       values = s.values;
       locks = s.locks;
-      counts = slice_set s.counts t (nextPlace s t);
+      counts = slice_set s.counts t (next_place s t);
     }
 
 abbrev pub stepped : State → Action → State

@@ -2,7 +2,7 @@
 ghost use Rattle.std.specs.Prelude.{◌≡◌};
 ghost use Rattle.events.specs.First.{first_fit};
 ghost use Rattle.events.specs.Kinds.{kind_number};
-ghost use Rattle.trace.specs.Steps.{lockTests, or_else, after, lockBy};
+ghost use Rattle.trace.specs.Steps.{lock_tests, or_else, after, lock_by};
 
 use events::{Kind, Lock, Refusal};
 
@@ -14,8 +14,8 @@ pub(crate) fn turn(
     thread: u8,
     room: Result<(), Refusal>,
 ) -> Result<(), Refusal>
-    ensures says { result ≡ or_else (first_fit (lockTests lock.old (kind_number kind) thread)) room }
-    ensures next { lock.new ≡ after result (lockBy (kind_number kind) thread lock.old) lock.old }
+    ensures says { result ≡ or_else (first_fit (lock_tests lock.old (kind_number kind) thread)) room }
+    ensures next { lock.new ≡ after result (lock_by (kind_number kind) thread lock.old) lock.old }
 {
     match (*lock, kind) {
         (Lock::Free, Kind::Acquire) => {

@@ -4,7 +4,7 @@ ghost use Rattle.events.specs.First.{first_fit};
 ghost use Rattle.events.specs.Kinds.{kind_number};
 ghost use Rattle.events.specs.Noting.{eq_z};
 ghost use Rattle.events.specs.declared.lock.Lock.TheVariants.{Free};
-ghost use Rattle.trace.specs.Steps.{subjectsIn, valueTests, lockTests, roomTests, stepTests, told, or_else, Admitted, placed, after, changed, counted, nextPlace, stepped};
+ghost use Rattle.trace.specs.Steps.{subjects_in, value_tests, lock_tests, room_tests, step_tests, told, or_else, Admitted, placed, after, changed, counted, next_place, stepped};
 
 use crate::locks::turn;
 use crate::state::State;
@@ -20,7 +20,7 @@ fn same(a: i32, b: i32) -> bool
 impl State {
     // How many subjects a kind has.
     fn subjects(&self, kind: Kind) -> usize
-        ensures { result ≡ subjectsIn self.now (kind_number kind) }
+        ensures { result ≡ subjects_in self.now (kind_number kind) }
     {
         match kind {
             Kind::Internal => 32,
@@ -32,7 +32,7 @@ impl State {
     // Whether there is room for one more event of the thread, where a row is spare or none is.
     fn room(&self, thread: u8, spare: bool) -> Result<(), Refusal>
         requires { thread < 8 }
-        ensures { result ≡ told (first_fit (roomTests self.now spare thread)) }
+        ensures { result ≡ told (first_fit (room_tests self.now spare thread)) }
     {
         if self.counts[thread as usize] == 255 {
             return Err(Refusal::ThreadFull);
@@ -65,9 +65,9 @@ impl State {
 
     // Whether the value is right: 0 at a lock's event, and at a read the variable's own.
     fn weigh(&self, kind: Kind, subject: u8, value: i32) -> Result<(), Refusal>
-        requires within { subject < subjectsIn self.now (kind_number kind) }
+        requires within { subject < subjects_in self.now (kind_number kind) }
         requires few { self.now.variables ≤ 32 }
-        ensures { result ≡ told (first_fit (valueTests self.now (kind_number kind) subject value)) }
+        ensures { result ≡ told (first_fit (value_tests self.now (kind_number kind) subject value)) }
     {
         match kind {
             Kind::Acquire | Kind::Release if !same(value, 0) => Err(Refusal::LockValue),
@@ -83,9 +83,9 @@ impl State {
         action: Action,
         room: Result<(), Refusal>,
     ) -> Result<(), Refusal>
-        requires within { action.subject < subjectsIn self.old (kind_number kind) }
+        requires within { action.subject < subjects_in self.old (kind_number kind) }
         requires few { self.old.variables ≤ 32 }
-        ensures says { result ≡ or_else (first_fit (lockTests (slice_index_or self.old.locks action.subject Free) (kind_number kind) action.thread)) room }
+        ensures says { result ≡ or_else (first_fit (lock_tests (slice_index_or self.old.locks action.subject Free) (kind_number kind) action.thread)) room }
         ensures next { self.new ≡ after result (changed self.old (kind_number kind) action) self.old }
     {
         match kind {
@@ -110,7 +110,7 @@ impl State {
     fn count(&mut self, thread: u8) -> u8
         requires thread { thread < 8 }
         requires room { slice_index self.old.counts thread < 255 }
-        ensures place { result ≡ nextPlace self.old thread }
+        ensures place { result ≡ next_place self.old thread }
         ensures next { self.new ≡ counted self.old thread }
     {
         let place = self.counts[thread as usize] + 1;
@@ -122,7 +122,7 @@ impl State {
     pub(crate) fn step(&mut self, action: Action, spare: bool) -> Result<u8, Refusal>
         requires threads { self.old.threads ≤ 8 }
         requires variables { self.old.variables ≤ 32 }
-        ensures says { result ≡ placed (first_fit (stepTests self.old spare action)) (nextPlace self.old action.thread) }
+        ensures says { result ≡ placed (first_fit (step_tests self.old spare action)) (next_place self.old action.thread) }
         ensures next { self.new ≡ after result (stepped self.old action) self.old }
     {
         let kind = self.admit(action)?;

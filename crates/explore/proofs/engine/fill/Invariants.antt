@@ -7,7 +7,7 @@ use Rattle.explore.proofs.engine.fill.Given as goal
 
 abbrev pub invariant-loop-i : goal.invariant-loop-i
 invariant-loop-i g l =
-    Upto (g.M.Machine.system l.machine) (rows_of g.R.Keyed.keyed g.R.Traced.foundFrom g.R.Traced.foundBy (listed l.list)) l.i 0
+    Upto (g.M.Machine.system l.machine) (rows_of g.R.Keyed.keyed g.R.Traced.found_from g.R.Traced.found_by (listed l.list)) l.i 0
     × Grown (lent l.initial.list) (lent l.list) (count l.initial.list) (count l.list)
     × (loan l.list ≡ loan l.initial.list)
 

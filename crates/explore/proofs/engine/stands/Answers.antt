@@ -7,5 +7,5 @@ use Rattle.explore.proofs.engine.stands.Goals as goal
 
 pub returns : goal.returns
 returns g c =
-    subst (λ (b : Bool). Stands (rows_of g.R.Keyed.keyed g.R.Traced.foundFrom g.R.Traced.foundBy (listed c.args.list.now)) c.args.node b) (sym c.is_some.ensures)
-    (stands_is g.R.Keyed.keyed g.R.Traced.foundFrom g.R.Traced.foundBy (listed c.args.list.now) c.args.node c.find.result c.find.ensures.first)
+    subst (λ (b : Bool). Stands (rows_of g.R.Keyed.keyed g.R.Traced.found_from g.R.Traced.found_by (listed c.args.list.now)) c.args.node b) (sym c.is_some.ensures)
+    (stands_is g.R.Keyed.keyed g.R.Traced.found_from g.R.Traced.found_by (listed c.args.list.now) c.args.node c.find.result c.find.ensures.first)

@@ -6,10 +6,10 @@ use Rattle.explore.proofs.path.path_back.Given as goal
 abbrev pub invariant-loop-from : goal.invariant-loop-from
 invariant-loop-from g l =
     (l.i < length l.rows)
-    × (l.n ≡ length (path_to (map g.R.Traced.foundFrom l.rows) (map g.R.Traced.foundBy l.rows) l.i))
+    × (l.n ≡ length (path_to (map g.R.Traced.found_from l.rows) (map g.R.Traced.found_by l.rows) l.i))
     × (l.n ≤ length l.labels)
-    × (path_to (map g.R.Traced.foundFrom l.rows) (map g.R.Traced.foundBy l.rows) l.row ++ drop l.len l.initial.labels
-    ≡ path_to (map g.R.Traced.foundFrom l.rows) (map g.R.Traced.foundBy l.rows) l.i ++ drop l.n l.labels)
+    × (path_to (map g.R.Traced.found_from l.rows) (map g.R.Traced.found_by l.rows) l.row ++ drop l.len l.initial.labels
+    ≡ path_to (map g.R.Traced.found_from l.rows) (map g.R.Traced.found_by l.rows) l.i ++ drop l.n l.labels)
 
 abbrev pub decreases-loop-from : goal.decreases-loop-from
 decreases-loop-from g l = l.i

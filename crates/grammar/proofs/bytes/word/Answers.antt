@@ -2,7 +2,7 @@ use Rattle.std.proofs.Common.{◌≡◌, ℕ, ◌+◌, ◌<◌, List, [], ◌∷
 use Rattle.std.proofs.lemmas.List.{drop_more, drop_all, take_more, take_all}
 use Rattle.grammar.specs.Machine.{Sym, t, is, lits}
 use Rattle.grammar.specs.Reading.{run_at}
-use Rattle.grammar.proofs.Steps.{failed-word}
+use Rattle.grammar.proofs.Steps.{failed_word}
 use Rattle.grammar.proofs.bytes.word.Goals as goal
 
 -- the next byte is to come
@@ -20,7 +20,7 @@ spelt_more w cs i j k lk lj e d =
 pub returns-in_err-i : goal.returns-in_err-i
 returns-in_err-i c =
     let e : c.from_residual.result ≡ Err c.in_err-i.field-0.0 = search rules in
-    let q = failed-word c.args.w.now c.args.text.now c.args.from c.in_err-i.field-0.0 c.from_residual.result e
+    let q = failed_word c.args.w.now c.args.text.now c.args.from c.in_err-i.field-0.0 c.from_residual.result e
     (λ s. unread c.args.text.now c.args.w.now c.args.from c.loop-c.i c.loop-c.c-index s (omega arith) (c.loop-c.invariant.3 s)
     ∙ c.in_err-i.ensures.moves (lits (drop (c.loop-c.c-index + 1) c.args.w.now) s)) in
     record { within = q.0; spelt = q.1; moves = q.2 }

@@ -41,11 +41,11 @@ stepped : (m : Meaning) (code new : ℕ) (a : Action) (e : Event) → new ≡ m.
 stepped m code new a e h q = h ∙ ap (m.step code) q
 
 -- the events taken so far
-abbrev So-far : Meaning → List Event → List ℕ → List ℕ → ℕ → ℕ → Type 0
-So-far m es ts cut k code = (r : List ℕ) × Reach es r (cut_of cut) × (thread_list es r ≡ take k ts) × (code ≡ ran m (actions_of es r))
+abbrev SoFar : Meaning → List Event → List ℕ → List ℕ → ℕ → ℕ → Type 0
+SoFar m es ts cut k code = (r : List ℕ) × Reach es r (cut_of cut) × (thread_list es r ≡ take k ts) × (code ≡ ran m (actions_of es r))
 
 module _ (m : Meaning) (es : List Event) (v : Tables) (made : MadeOf es v) (ts cut : List ℕ) (k code : ℕ)
-    (even : length ts ≡ v.total) (ahead : k < length ts) (far : So-far m es ts cut k code) where
+    (even : length ts ≡ v.total) (ahead : k < length ts) (far : SoFar m es ts cut k code) where
   at : (P : ℕ → Cut → Type 0) → P (get_or ts k 0) (cut_of cut) → RefusedAt es ts (k + 1) P
   at P h = (
     k,
@@ -57,7 +57,7 @@ module _ (m : Meaning) (es : List Event) (v : Tables) (made : MadeOf es v) (ts c
 
   -- one more
   on : (e : Event) → Answers es (cut_of cut) (get_or ts k 0) (answer.Next e) → get_or ts k 0 < length cut → (new : ℕ) → new ≡ m.step code (action_of e)
-      → So-far m es ts (set cut (get_or ts k 0) e.place) (k + 1) new
+      → SoFar m es ts (set cut (get_or ts k 0) e.place) (k + 1) new
   on e a small new is =
       let t : ℕ = get_or ts k 0 in
       let i = a.0 in

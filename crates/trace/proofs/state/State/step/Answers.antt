@@ -5,7 +5,7 @@ use Rattle.events.specs.declared.lock.Lock.TheVariants.{Free}
 use Rattle.events.specs.declared.refusal.Refusal.{Refusal}
 use Rattle.events.specs.First.{first_fit}
 use Rattle.events.specs.Kinds.{kind_number}
-use Rattle.trace.specs.Steps.{lockTests, stepTests, nextPlace, placed, or_else}
+use Rattle.trace.specs.Steps.{lock_tests, step_tests, next_place, placed, or_else}
 use Rattle.trace.proofs.Fits.{step_form, step_value, step_lock, told_err}
 use Rattle.trace.proofs.state.State.step.Goals as goal
 
@@ -16,7 +16,7 @@ returns-in_err-kind c =
     let a = c.args.action in
     rw (p.1, p.2)
     record {
-      says = sym (ap (λ (o : Option Refusal). placed o (nextPlace s a.thread)) (step_form s c.args.spare a _ c.in_err-kind.ensures));
+      says = sym (ap (λ (o : Option Refusal). placed o (next_place s a.thread)) (step_form s c.args.spare a _ c.in_err-kind.ensures));
       next = refl;
     }
 
@@ -29,7 +29,7 @@ returns-in_err-weigh c =
     let fits : SFits w32 c.args.action.value = search rules in
     rw (p.1, p.2)
     record {
-      says = sym (ap (λ (o : Option Refusal). placed o (nextPlace s a.thread)) (step_value s c.args.spare a (kind_number c.in_ok-kind.kind) _ _ k.0 k.3 (to_z-of_z w32 a.value fits) c.in_err-weigh.ensures));
+      says = sym (ap (λ (o : Option Refusal). placed o (next_place s a.thread)) (step_value s c.args.spare a (kind_number c.in_ok-kind.kind) _ _ k.0 k.3 (to_z-of_z w32 a.value fits) c.in_err-weigh.ensures));
       next = refl;
     }
 
@@ -42,10 +42,10 @@ returns-in_err-change c =
     let fits : SFits w32 c.args.action.value = search rules in
     let h = c.in_err-change.ensures in
     let all = h.says
-    ∙ ap (λ (r : Result (Unit {0}) Refusal). or_else (first_fit (lockTests (get_or s.locks a.subject Free) (kind_number c.in_ok-kind.kind) a.thread)) r) c.room-room.ensures
+    ∙ ap (λ (r : Result (Unit {0}) Refusal). or_else (first_fit (lock_tests (get_or s.locks a.subject Free) (kind_number c.in_ok-kind.kind) a.thread)) r) c.room-room.ensures
     ∙ step_lock s c.args.spare a (kind_number c.in_ok-kind.kind) _ _ k.0 k.3 (to_z-of_z w32 a.value fits) c.in_ok-weigh.ensures in
     rw (p.1, p.2)
     record {
-      says = sym (ap (λ (o : Option Refusal). placed o (nextPlace s a.thread)) (told_err (first_fit (stepTests s c.args.spare a)) _ all));
+      says = sym (ap (λ (o : Option Refusal). placed o (next_place s a.thread)) (told_err (first_fit (step_tests s c.args.spare a)) _ all));
       next = h.next;
     }
