@@ -5,7 +5,6 @@
 pub mod compile;
 pub mod fault;
 pub mod formula;
-pub mod monitor;
 pub mod node;
 mod numbers;
 mod reading;
@@ -15,6 +14,7 @@ mod spelling;
 mod step;
 mod suiting;
 pub mod theorem;
+pub mod watch;
 pub mod word;
 
 pub use fault::RuleFault;
