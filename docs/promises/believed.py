@@ -61,7 +61,7 @@ PROMISES = [
     ]),
     ("equal-maps.md", "Equal maps", [
         ("mapping", "map", ["equal"], {}),
-        ("calls", "perform", ["lawful"], {"Lawful": ["maps", "otherMaps"]}),
+        ("calls", "perform", ["lawful"], {"Lawful": ["maps", "other_maps"]}),
     ]),
     ("none.md", "None", [
         ("judge", "judge", ["none"], {}),
@@ -76,18 +76,18 @@ PROMISES = [
 # Tests that a theorem ties to the relation that they decide: who reads the theorem and the relation need not read the test. By the test's crate,
 # module and name, the theorem's contract.
 TIED = {
-    ("order", "Tests", "mayFollow"): ("order", "tests", [""], {"Decided": ["follows"]}),
+    ("order", "Tests", "may_follow"): ("order", "tests", [""], {"Decided": ["follows"]}),
 }
 
 # What public calls hand out, by their contracts: of these only the type counts, whatever they are made of.
 HANDED_OUT = {
-    ("trace", "openingOf"): "by `Trace::open` it is what the trace was opened with, and `Trace::void`, `threads` and `starts` hand it out",
-    ("trace", "notedOf"): "by `Trace::note` it grows by each event that is accepted, and `Trace::events` hands it out",
+    ("trace", "opening_of"): "by `Trace::open` it is what the trace was opened with, and `Trace::void`, `threads` and `starts` hand it out",
+    ("trace", "noted_of"): "by `Trace::note` it grows by each event that is accepted, and `Trace::events` hands it out",
     ("trace", "Trace"): "",
 }
 
-LIBRARY = ("mathlib", "lib", "Prim", "native", "Rattle·std", "denote", "base")
-NAME = re.compile(r"[^\s(){}\[\],;.:\"`⌜⌝|@]+")
+LIBRARY = ("Rattle.std.", "Prim.")
+NAME = re.compile(r"[^\s(){}\[\],;.:\"`|@]+")
 RUST_NAME = re.compile(r"[A-Za-z_][A-Za-z_0-9]*")
 
 
@@ -154,7 +154,7 @@ class File:
         self.crate = path.relative_to(CRATES).parts[0]
         self.text = code(path.read_text())
         self.names, self.aliases = {}, {}
-        for m in re.finditer(r"^(?:ghost )?(?:pub )?use ([^;{\n]+?)(?:\.\{([^}]*)\})?(?: as (\S+?))?;?$", self.text, flags=re.M):
+        for m in re.finditer(r"^(?:ghost )?(?:pub )?use ([^;{\n]+?(?:::)?)(?:\.?\{([^}]*)\})?(?: as (\S+?))?;?$", self.text, flags=re.M):
             module, names, alias = m.group(1).strip(), m.group(2), m.group(3)
             if names is not None:
                 for part in names.split(","):
@@ -246,14 +246,14 @@ class Repository:
             return "library" if first == "std" else self.type_of(first if first in self.sources else crate, name)
         if module.startswith(LIBRARY):
             return "library"
-        m = re.match(r"^Rattle·([a-z_]+)[·.](specs|proofs)\.(.*)$", module)
+        m = re.match(r"^Rattle\.([a-z_]+)\.(specs|proofs)\.(.*)$", module)
         if not m:
             return None
         crate, kind, rest = m.groups()
         if kind == "proofs":
             return None
         if rest.startswith("declared."):
-            parts = rest.removesuffix(".the-variants").split(".")
+            parts = rest.removesuffix(".TheVariants").split(".")
             return self.type_of(crate, parts[-1])
         spec = self.specs.get((crate, rest))
         if spec is None and (crate, rest.rsplit(".", 1)[0]) in self.specs:
@@ -294,9 +294,12 @@ class Repository:
                 before = text[:start]
                 alias = None
                 if before.endswith("."):
+                    # a case of an aliased type, or the trait in `M.Monitor.meaning`; else it is a field
                     alias = (re.search(r"([^\s(){}\[\],;.]+)\.$", before) or [None, None])[1]
-                    if alias is None or alias not in file.aliases:
-                        continue
+                    if alias not in file.aliases:
+                        alias = None
+                        if isinstance(file, Spec) or not name[0].isupper():
+                            continue
                 elif name in bound:
                     continue
                 hit = self.resolve(file, name, alias)
@@ -305,17 +308,14 @@ class Repository:
                 elif hit and hit[1] is not item:
                     found.append(hit)
         for module, names in ((v[0], k) for k, v in file.names.items()):
-            if module.startswith(LIBRARY) and names.startswith("_") and f" {names.strip('_')} " in text:
+            if module.startswith(LIBRARY) and (f" {names.strip('◌')} " in text if names.startswith("◌") else names == "[]" and names in text):
                 library.append(names)
         return found, library
 
 
 def parts_of(m, spec):
-    """The names in a token: of `M·Monitor` the trait."""
+    """The names in a token: of src/ also those of Rust in it."""
     token, start = m.group(0), m.start()
-    if "·" in token and not spec:
-        at = token.index("·") + 1
-        return [(token[at:], start + at)]
     if spec:
         return [(token, start)]
     return [(token, start)] + [(x.group(0), start + x.start()) for x in RUST_NAME.finditer(token) if x.group(0) != token]
