@@ -1,5 +1,5 @@
 -- How the tables take in events one by one, and sum up.
-use Rattle.std.specs.Prelude.{◌≡◌, ℕ, suc, ◌+◌, ◌%◌, ◌^◌, ◌<◌, cond, List, replicate, nat_lt, slice_index, slice_index_or, slice_set}
+use Rattle.std.specs.Prelude.{◌≡◌, ℕ, suc, ◌+◌, ◌*◌, ◌%◌, ◌^◌, ◌<◌, cond, List, length, replicate, ◌≢◌, nat_lt, slice_index, slice_index_or, slice_set}
 use Rattle.events.specs.declared.event.Event.{Event}
 use Rattle.order.specs.Trace.{blank}
 use Rattle.follow.specs.declared.role.Role.{Role}
@@ -76,4 +76,11 @@ Entered v e w = (r : Role) × RoleOf e.kind e.subject r × (w ≡ entered v e r)
 pub record Summed (xs ys : List ℕ) : Type 0 where
   pub first : (t b : ℕ) → t < 8 → b < 48 → slice_index ys (cell_of t 0 b) ≡ slice_index xs (cell_of t 0 b)
   pub more : (t c b : ℕ) → t < 8 → suc c < 256 → b < 48
+      → slice_index ys (cell_of t (suc c) b) ≡ (slice_index xs (cell_of t (suc c) b) + slice_index ys (cell_of t c b)) % 2 ^ 16
+
+-- it has them of thread t alone, and is as xs at the other threads
+pub record SummedAt (xs ys : List ℕ) (t : ℕ) : Type 0 where
+  pub others : (u c b : ℕ) → (u ≢ t) → u < 8 → c < 256 → b < 48 → slice_index ys (cell_of u c b) ≡ slice_index xs (cell_of u c b)
+  pub first : (b : ℕ) → b < 48 → slice_index ys (cell_of t 0 b) ≡ slice_index xs (cell_of t 0 b)
+  pub more : (c b : ℕ) → suc c < 256 → b < 48
       → slice_index ys (cell_of t (suc c) b) ≡ (slice_index xs (cell_of t (suc c) b) + slice_index ys (cell_of t c b)) % 2 ^ 16

@@ -1,12 +1,13 @@
 // How the tables are made.
 ghost use Rattle.std.specs.Prelude.{◌≡◌, ℕ, ◌<◌};
 ghost use Rattle.events.specs.Noting.{Opening, Noted};
-ghost use Rattle.follow.specs.Filling.{placed, taking, Entered, raised, Summed};
+ghost use Rattle.follow.specs.Filling.{placed, taking, Entered, raised, Summed, SummedAt};
 ghost use Rattle.follow.specs.Made.{MadeOf, Small};
 
 use crate::role::{Role, role_of};
-use crate::tables::{CELLS, NO_SOURCE, OBJECTS, Tables, slot};
+use crate::tables::{CELLS, OBJECTS, Tables, slot};
 use events::Event;
+use order::Row;
 
 // The cells of one thread: a row for each count.
 const THREAD_CELLS: usize = 12288;
@@ -19,14 +20,23 @@ fn raise(table: &mut [u16; CELLS], at: usize)
     table[at] = table[at].wrapping_add(1);
 }
 
+// Sums a table up over the places of one thread.
+fn sum_thread(table: &mut [u16; CELLS], thread: usize)
+    requires { thread < 8 }
+    ensures { SummedAt table.old table.new thread }
+{
+    let first = thread * THREAD_CELLS;
+    for i in first + OBJECTS..first + THREAD_CELLS {
+        table[i] = table[i].wrapping_add(table[i - OBJECTS]);
+    }
+}
+
 // Sums a table up over the places of each thread.
 fn sum_up(table: &mut [u16; CELLS])
     ensures { Summed table.old table.new }
 {
-    for i in OBJECTS..CELLS {
-        if i % THREAD_CELLS >= OBJECTS {
-            table[i] = table[i].wrapping_add(table[i - OBJECTS]);
-        }
+    for thread in 0..8 {
+        sum_thread(table, thread);
     }
 }
 
@@ -68,10 +78,10 @@ impl Tables {
                 self.take(e, object, source);
             }
             Role::Lead(object) => {
-                self.put(e, NO_SOURCE);
+                self.put(e, Row::NO_SOURCE);
                 self.latest[object] = (e.thread, e.place);
             }
-            Role::Apart => self.put(e, NO_SOURCE),
+            Role::Apart => self.put(e, Row::NO_SOURCE),
         }
     }
 

@@ -2,6 +2,8 @@
 // x, and lock l is 32 + l.
 ghost use Rattle.follow.specs.Roles.{RoleOf};
 
+use events::Kind;
+
 pub(crate) enum Role {
     // a write or an acquire: it leads a group of this object
     Lead(usize),
@@ -14,11 +16,11 @@ pub(crate) enum Role {
 pub(crate) fn role_of(kind: u8, subject: u8) -> Role
     ensures { RoleOf kind subject result }
 {
-    match kind {
-        1 if subject < 32 => Role::Take(subject as usize),
-        2 if subject < 32 => Role::Lead(subject as usize),
-        3 if subject < 16 => Role::Lead(32 + subject as usize),
-        4 if subject < 16 => Role::Take(32 + subject as usize),
+    match Kind::of(kind) {
+        Some(Kind::Read) if subject < 32 => Role::Take(subject as usize),
+        Some(Kind::Write) if subject < 32 => Role::Lead(subject as usize),
+        Some(Kind::Acquire) if subject < 16 => Role::Lead(32 + subject as usize),
+        Some(Kind::Release) if subject < 16 => Role::Take(32 + subject as usize),
         _ => Role::Apart,
     }
 }

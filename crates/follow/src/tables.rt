@@ -7,6 +7,7 @@ ghost use Rattle.follow.specs.Filling.{blank_tables};
 ghost use Rattle.follow.specs.Made.{slot_of, MadeOf, source_in};
 
 use events::Event;
+use order::Row;
 
 // Variables and locks.
 pub(crate) const OBJECTS: usize = 48;
@@ -17,9 +18,6 @@ pub(crate) const SLOTS: usize = 2048;
 // A cell for each slot and each object.
 pub(crate) const CELLS: usize = 98304;
 
-// What stands for the source of an event that nothing feeds.
-pub(crate) const NO_SOURCE: (u8, u8) = (255, 0);
-
 #[derive(Drop)]
 pub struct Tables {
     // how many events the list has
@@ -28,9 +26,9 @@ pub struct Tables {
     pub(crate) counts: [u8; 8],
     // by thread and place, the event
     pub(crate) events: [Event; SLOTS],
-    // by thread and place, thread and place of the event that feeds it, or 255 and 0
+    // by thread and place, thread and place of the event that feeds it, or `NO_SOURCE`
     pub(crate) sources: [(u8, u8); SLOTS],
-    // of each object, thread and place of its latest write or acquire, or 255 and 0
+    // of each object, thread and place of its latest write or acquire, or `NO_SOURCE`
     pub(crate) latest: [(u8, u8); OBJECTS],
     // of each object, the size of its starting group
     pub(crate) starts: [u16; OBJECTS],
@@ -50,8 +48,8 @@ impl Tables {
             total: 0,
             counts: [0; 8],
             events: [Event::BLANK; SLOTS],
-            sources: [NO_SOURCE; SLOTS],
-            latest: [NO_SOURCE; OBJECTS],
+            sources: [Row::NO_SOURCE; SLOTS],
+            latest: [Row::NO_SOURCE; OBJECTS],
             starts: [0; OBJECTS],
             led: [0; CELLS],
             taken: [0; CELLS],
@@ -65,7 +63,7 @@ impl Tables {
         self.total
     }
 
-    // Thread and place of the event that feeds the thread's event of this place, or 255 and 0.
+    // Thread and place of the event that feeds the thread's event of this place, or `NO_SOURCE`.
     pub fn source(&self, thread: u8, place: u8) -> (u8, u8)
         ensures held { result ≡ source_in self.now thread place }
         ensures feeds { (es : List AnEvent) → MadeOf es self.now → (i : ℕ) → i < length es → thread_at es i ≡ thread → place_at es i ≡ place → Source es i result.0 result.1 }
@@ -73,7 +71,7 @@ impl Tables {
         if thread < 8 {
             return self.sources[slot(thread, place)];
         }
-        NO_SOURCE
+        Row::NO_SOURCE
     }
 }
 

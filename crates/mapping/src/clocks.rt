@@ -5,7 +5,6 @@ ghost use Rattle.mapping.specs.Rows.{Stands, standing, clock_for};
 
 use crate::kinds::READ;
 use crate::places::position;
-use crate::sources::NONE;
 use events::Event;
 use order::Row;
 
@@ -52,7 +51,7 @@ pub(crate) fn clock(
     ensures counts { (j : ℕ) → j < 8 → slice_index result j ≡ clock_for own event source (standing bases source rows.now).clock j }
 {
     let next = ticked(own, event.thread);
-    if event.kind == READ && source.0 != NONE.0 {
+    if event.kind == READ && source.0 != Row::NO_SOURCE.0 {
         let write = rows[position(bases, source.0, source.1)];
         joined(next, write.clock)
     } else {

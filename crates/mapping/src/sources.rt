@@ -5,11 +5,9 @@ ghost use Rattle.mapping.specs.Latest.{source_of, with_write, with_acquire};
 
 use crate::kinds::{ACQUIRE, READ, RELEASE, WRITE};
 use events::Event;
+use order::Row;
 
-// Stands for the source of an event that nothing feeds.
-pub(crate) const NONE: (u8, u8) = (255, 0);
-
-// Where there is none yet, `NONE` stands.
+// Where there is none yet, `NO_SOURCE` stands.
 #[derive(Drop)]
 pub(crate) struct Sources {
     pub(crate) writes: [(u8, u8); 32],
@@ -22,8 +20,8 @@ impl Sources {
         ensures writes { result.writes ≡ replicate 32 (255, 0) }
         ensures acquires { result.acquires ≡ replicate 16 (255, 0) }
     {
-        let writes = [NONE; 32];
-        let acquires = [NONE; 16];
+        let writes = [Row::NO_SOURCE; 32];
+        let acquires = [Row::NO_SOURCE; 16];
         Sources { writes, acquires }
     }
 
@@ -37,7 +35,7 @@ impl Sources {
         match event.kind {
             READ => self.writes[event.subject as usize],
             RELEASE => self.acquires[event.subject as usize],
-            _ => NONE,
+            _ => Row::NO_SOURCE,
         }
     }
 

@@ -1,7 +1,7 @@
 // A row of a trace's map.
 
 // What the map says of one event: the event; the thread and the place of the event that feeds it,
-// or 255 and 0 where nothing does; and for each thread how many of its events are this one or
+// or `NO_SOURCE` where nothing does; and for each thread how many of its events are this one or
 // before it.
 #[derive(Clone, Copy, Debug)]
 pub struct Row {
@@ -15,6 +15,9 @@ pub struct Row {
 }
 
 impl Row {
+    // What stands for the source of an event that nothing feeds.
+    pub const NO_SOURCE: (u8, u8) = (255, 0);
+
     // A row that stands for no event, with which tables are made.
     pub const BLANK: Row = Row {
         thread: 0,

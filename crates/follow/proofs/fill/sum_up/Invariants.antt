@@ -1,5 +1,5 @@
-use Rattle.follow.proofs.Summing.{Sums}
+use Rattle.follow.proofs.Summing.{SummedBelow}
 use Rattle.follow.proofs.fill.sum_up.Given as goal
 
-abbrev pub invariant-loop-i : goal.invariant-loop-i
-invariant-loop-i l = Sums l.initial.table l.table l.i
+abbrev pub invariant-loop-thread : goal.invariant-loop-thread
+invariant-loop-thread l = SummedBelow l.initial.table l.table l.thread
