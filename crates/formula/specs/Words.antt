@@ -1,5 +1,5 @@
 -- Formulas as rows of words, each word ahead of its parts.
-use Rattle.std.specs.Prelude.{◌≡◌, ℕ, ◌+◌, ◌<◌, ◌≤◌, List, length, pos, Some, None, Option, slice_index, slice_index_or}
+use Rattle.std.specs.Prelude.{◌≡◌, ℕ, ◌+◌, ◌-◌, ◌<◌, ◌≤◌, List, length, drop, replicate, pos, Some, None, Option, slice_index, slice_index_or}
 use Rattle.grammar.specs.Recording.{Formula, eq, lt, gt, mark, by, neg, before, once, always, and, or, implies, since}
 use Rattle.formula.specs.declared.node.Node.{Node}
 use Rattle.formula.specs.declared.node.Table.{Table}
@@ -40,6 +40,11 @@ Spell ws f = Spells ws 0 f × (size f ≡ length ws)
 abbrev pub CompiledTo : List Word → Option Table → Type 0
 CompiledTo ws (Some t) = (t.len ≤ 60) × ((f : Formula) × Spell ws f × Tabled t.nodes t.len f)
 CompiledTo ws None = length ws ≤ 60 → (f : Formula) → Spell ws f → ⊥
+
+-- the rows beyond a table are marks of label 0
+abbrev pub BlankBeyond : Option Table → Type 0
+BlankBeyond (Some t) = drop t.len t.nodes ≡ replicate (60 - t.len) (Mark 0)
+BlankBeyond None = Unit {0}
 
 -- the words spell one formula at most
 abbrev pub OneFormula : List Word → Type 0

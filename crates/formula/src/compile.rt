@@ -1,6 +1,6 @@
 // From the words of a formula to its table.
 ghost use Rattle.std.specs.Prelude.{◌≡◌, ◌<◌, ◌≤◌, Some, None};
-ghost use Rattle.formula.specs.Words.{CompiledTo, OneFormula, Placing, Missing};
+ghost use Rattle.formula.specs.Words.{CompiledTo, BlankBeyond, OneFormula, Placing, Missing};
 
 use crate::node::{Node, Table};
 use crate::word::Word;
@@ -47,6 +47,7 @@ fn placing(word: Word, i: u8, len: u8, ends: &[u8; 60]) -> Option<(Node, u8)>
 // The table of the formula that the words spell. None if they spell none, or are more than 60.
 pub fn compile(words: &[Word]) -> Option<Table>
     ensures table { CompiledTo words.now result }
+    ensures beyond { BlankBeyond result }
     ensures one { OneFormula words.now }
 {
     if words.len() == 0 || words.len() > 60 {

@@ -53,25 +53,19 @@ fn made(starts: &[i32], text: &[u8]) -> Result<Formula, RuleFault>
     ensures made { MadeFrom starts.now text.now result }
     ensures watches { WatchesText starts.now text.now result }
 {
-    match read(text) {
-        Err(fault) => Err(RuleFault::Text(fault)),
-        Ok(spelling) => {
-            let variables = starts.len() as u8;
-            match fault_of(&spelling, text, variables) {
-                Some(fault) => Err(fault),
-                None => {
-                    let table = compile(&spelling.words[..spelling.len]).unwrap();
-                    let nodes = table.nodes;
-                    Ok(Formula {
-                        nodes,
-                        len: table.len,
-                        variables,
-                        starts: padded(starts),
-                    })
-                }
-            }
-        }
+    let spelling = read(text)?;
+    let variables = starts.len() as u8;
+    if let Some(fault) = fault_of(&spelling, text, variables) {
+        return Err(fault);
     }
+    let table = compile(&spelling.words[..spelling.len]).unwrap();
+    let nodes = table.nodes;
+    Ok(Formula {
+        nodes,
+        len: table.len,
+        variables,
+        starts: padded(starts),
+    })
 }
 
 impl Formula {

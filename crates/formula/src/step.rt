@@ -10,6 +10,12 @@ use crate::node::Node;
 use codes::{has, only};
 use events::Action;
 
+// The bits of a code beside those of the subformulas: whether there was an event yet, and whether the
+// formula was false after one.
+pub(crate) const BEGUN: u8 = 60;
+
+pub(crate) const BAD: u8 = 61;
+
 fn is_write(action: Action, variable: u8) -> bool
     ensures { result ≡ writes action variable }
 {
@@ -21,7 +27,7 @@ fn is_write(action: Action, variable: u8) -> bool
 fn holds(node: Node, i: u8, code: u64, next: u64, action: Action) -> bool
     ensures { result ≡ truth node i (bit_of code) (bit_of next) action }
 {
-    let later = has(code, 60);
+    let later = has(code, BEGUN);
     let own = has(code, i);
     match node {
         Node::Eq(x, c) => if is_write(action, x) {
@@ -91,9 +97,9 @@ pub(crate) fn next_code(formula: &Formula, code: u64, action: Action) -> u64
             next |= only(i);
         }
     }
-    let mut all = next | only(60);
-    if has(code, 61) || !has(next, 0) {
-        all |= only(61);
+    let mut all = next | only(BEGUN);
+    if has(code, BAD) || !has(next, 0) {
+        all |= only(BAD);
     }
     all
 }

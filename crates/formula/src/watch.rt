@@ -4,7 +4,7 @@ ghost use Rattle.formula.specs.Meant.{meant};
 ghost use Rattle.formula.specs.Step.{Turn};
 
 use crate::formula::Formula;
-use crate::step::{next_code, start_code};
+use crate::step::{BAD, next_code, start_code};
 use codes::has;
 use events::Action;
 use monitor::Monitor;
@@ -25,8 +25,7 @@ impl Monitor for Formula {
         next_code(self, code, action)
     }
 
-    // Bit 61 marks the bad codes.
     fn bad(&self, code: u64) -> bool {
-        has(code, 61)
+        has(code, BAD)
     }
 }

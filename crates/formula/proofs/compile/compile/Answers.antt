@@ -1,4 +1,6 @@
-use Rattle.std.proofs.Common.{◌≡◌, ◌-◌, List, length, sym, ⊎_elim, arith, length-set}
+use Rattle.std.proofs.Common.{◌≡◌, ◌+◌, ◌-◌, List, length, sym, ap, ◌∙◌, ⊎_elim, arith, length-set}
+use Rattle.std.proofs.lemmas.List.{drop-set-lt, drop-replicate}
+use Rattle.formula.specs.declared.node.Node.TheVariants.{Mark}
 use Rattle.formula.specs.declared.word.Word.{Word}
 use Rattle.formula.specs.Truth.{size}
 use Rattle.formula.specs.Words.{OneFormula}
@@ -20,17 +22,23 @@ loop-i-preserved c =
           (omega arith) (omega (arith, c.loop-i.invariant.0)) (omega (arith, c.loop-i.invariant.1))
           (λ k l u. c.loop-i.invariant.2 k (omega arith) u)
           c.in-Some.ensures,
+      drop-set-lt (length ws) c.loop-i.nodes j c.in-Some.node (omega arith) ∙ c.loop-i.invariant.3,
     )
 
 pub returns-then-ends-len : goal.returns-then-ends-len
 returns-then-ends-len c =
     let g = c.loop-i.invariant.2 0 (omega arith) (omega arith) in
     let same : size g.form ≡ length c.args.words.now = omega (arith, g.ends_at, c.if-ends-len.true) in
-    record { table = (omega arith, (g.form, (g.spelt, same), record { numbered = g.numbered; all = sym same })); one = one_formula c.args.words.now }
+    record {
+      table = (omega arith, (g.form, (g.spelt, same), record { numbered = g.numbered; all = sym same }));
+      beyond = c.loop-i.invariant.3 ∙ drop-replicate (length c.args.words.now) 60 (Mark 0);
+      one = one_formula c.args.words.now;
+    }
 
 pub returns-then-words-eq0 : goal.returns-then-words-eq0
 returns-then-words-eq0 c = record {
   table = λ few f s. ⊎_elim (λ e. omega (arith, e, s.1, size_pos f)) (λ h. omega (arith, h.1, few)) c.then-words-eq0.either;
+  beyond = tt;
   one = one_formula c.args.words.now;
 }
 
@@ -41,6 +49,7 @@ returns-in-None c =
       table = λ few f s.
           stuck ws (length ws) c.loop-i.nodes c.loop-i.ends (c.loop-i.i - 1) (omega arith) (λ k l u. c.loop-i.invariant.2 k (omega arith) u)
           c.in-None.ensures f s.0 s.1;
+      beyond = tt;
       one = one_formula ws;
     }
 
@@ -52,5 +61,6 @@ returns-else-ends-len c =
           let g = c.loop-i.invariant.2 0 (omega arith) (omega arith) in
           let same = same_size ws 0 f g.form s.0 g.spelt in
           c.if-ends-len.false (omega (arith, g.ends_at, same, s.1));
+      beyond = tt;
       one = one_formula ws;
     }

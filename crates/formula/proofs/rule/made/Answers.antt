@@ -1,24 +1,35 @@
-use Rattle.std.proofs.Common.{length, arith}
+use Rattle.std.proofs.Common.{◌≡◌, ◌≤◌, List, [], length, Err, sym, ap, ◌∙◌, subst, arith}
+use Rattle.std.proofs.lemmas.Result.{err_from_is_err_and}
+use Rattle.formula.specs.Making.{MadeFrom, WatchesText}
 use Rattle.formula.proofs.Made.{is_some, tabled}
 use Rattle.formula.proofs.Rows.{sound_from}
 use Rattle.formula.proofs.Stands.{watch_from}
 use Rattle.formula.proofs.Truths.{size_pos}
 use Rattle.formula.proofs.rule.made.Goals as goal
 
+-- a text at fault
+pub returns-in_err-spelling : goal.returns-in_err-spelling
+returns-in_err-spelling c =
+    let p = err_from_is_err_and c.from_residual.result c.from_residual.ensures.1 in
+    record {
+      made = subst (λ r. MadeFrom c.args.starts.now c.args.text.now r) (sym (p.1 ∙ ap Err p.2)) c.in_err-spelling.ensures;
+      watches = subst (λ r. WatchesText c.args.starts.now c.args.text.now r) (sym (p.1 ∙ ap Err p.2)) tt;
+    }
+
 pub unwrap-table-requires : goal.unwrap-table-requires
 unwrap-table-requires c =
-    is_some c.args.text.now (length c.args.starts.now) c.in-Ok.spelling c.in-Ok.ensures.1 c.in-Ok.ensures.2 c.in-None.ensures c.compile.result c.compile.ensures.table
+    is_some c.args.text.now (length c.args.starts.now) c.in_ok-spelling.spelling c.in_ok-spelling.ensures.1 c.in_ok-spelling.ensures.2 c.in_default.ensures c.compile.result c.compile.ensures.table
 
 pub invariant_of-result : goal.invariant_of-result
 invariant_of-result c =
     let t = c.args.text.now in
     let v = length c.args.starts.now in
-    let read = c.in-Ok.ensures in
+    let read = c.in_ok-spelling.ensures in
     let legal = read.1 in
     let sp = read.2 legal.0 legal.1 legal.2 in
-    let told = c.in-None.ensures legal.0 sp in
+    let told = c.in_default.ensures legal.0 sp in
     let x = c.unwrap-table.result in
-    let tab = tabled t v c.in-Ok.spelling legal read.2 c.in-None.ensures c.compile.result c.compile.ensures.table x c.unwrap-table.ensures legal.0 legal.1 legal.2 in
+    let tab = tabled t v c.in_ok-spelling.spelling legal read.2 c.in_default.ensures c.compile.result c.compile.ensures.table x c.unwrap-table.ensures legal.0 legal.1 legal.2 in
     record {
       some = omega (arith, tab.all, size_pos legal.0);
       few = omega (arith, tab.all, told.0);
@@ -26,16 +37,16 @@ invariant_of-result c =
       sound = sound_from v x.len x.nodes legal.0 tab told.1;
     }
 
-pub returns-in-None : goal.returns-in-None
-returns-in-None c =
+pub returns : goal.returns
+returns c =
     let t = c.args.text.now in
     let v = length c.args.starts.now in
-    let read = c.in-Ok.ensures in
+    let read = c.in_ok-spelling.ensures in
     let legal = read.1 in
     let sp = read.2 legal.0 legal.1 legal.2 in
-    let told = c.in-None.ensures legal.0 sp in
+    let told = c.in_default.ensures legal.0 sp in
     let x = c.unwrap-table.result in
-    let tab = tabled t v c.in-Ok.spelling legal read.2 c.in-None.ensures c.compile.result c.compile.ensures.table x c.unwrap-table.ensures in
+    let tab = tabled t v c.in_ok-spelling.spelling legal read.2 c.in_default.ensures c.compile.result c.compile.ensures.table x c.unwrap-table.ensures in
     record {
       made = record {
         of = legal.0;
