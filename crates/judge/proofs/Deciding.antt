@@ -23,7 +23,7 @@ use Rattle.judge.specs.declared.verdict.Verdict.TheVariants as verdict
 use Rattle.judge.specs.Viewed.{pair_in, viewed}
 use Rattle.judge.specs.Decided.{ends, threads_to, DecidedBy}
 use Rattle.judge.specs.Judging.{Answered}
-use Rattle.judge.specs.Rows.{no_row, view, at_view, is_view}
+use Rattle.judge.proofs.Rows.{no_row, view, at_view, is_view}
 
 module _ (es : List Event) (n : ℕ) (m : Meaning) (g : Given es n) (c : ℕ) (xs : List SearchRow) (b : Bool) (holds : Holds (pairs es n m) c (viewed xs) b) where
   abbrev row : ℕ → SearchRow

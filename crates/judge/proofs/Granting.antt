@@ -23,7 +23,7 @@ use Rattle.judge.specs.Viewed.{viewed}
 use Rattle.judge.specs.Tabled.{tabled}
 use Rattle.judge.specs.Decided.{ends, DecidedBy}
 use Rattle.judge.specs.Judging.{judge_tests, JudgedFor, Judged}
-use Rattle.judge.specs.Rows.{many_viewed}
+use Rattle.judge.proofs.Rows.{many_viewed}
 use Rattle.judge.proofs.Agreeing.{holds_pairs}
 use Rattle.judge.proofs.Deciding.{answered}
 

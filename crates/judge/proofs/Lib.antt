@@ -1,3 +1,4 @@
+pub mod Rows
 pub mod Agreeing
 pub mod Deciding
 pub mod Saying

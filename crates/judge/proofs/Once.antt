@@ -25,9 +25,9 @@ use Rattle.judge.specs.declared.verdict.Judgement.{Judgement}
 use Rattle.judge.specs.declared.verdict.Verdict.{Verdict}
 use Rattle.judge.specs.declared.verdict.Verdict.TheVariants as verdict
 use Rattle.judge.specs.Viewed.{viewed}
-use Rattle.judge.specs.Judging.{judge_tests, Listed, Answered, Granted, JudgedFor, Judged}
+use Rattle.judge.specs.Judging.{judge_tests, Listed, Answered, Granted, JudgedFor}
 use Rattle.judge.specs.Laws.{JudgedOnce}
-use Rattle.judge.specs.Rows.{many_viewed, same_rows}
+use Rattle.judge.proofs.Rows.{many_viewed, same_rows}
 
 -- the verdict on rows
 module _ (es : List Event) (m : Meaning) (rows : List (Row Pair)) (k : ℕ) (all : length rows ≡ k) (list : List ℕ) where

@@ -21,7 +21,7 @@ use Rattle.judge.specs.declared.verdict.Verdict.TheVariants as verdict
 use Rattle.judge.specs.Viewed.{viewed}
 use Rattle.judge.specs.Judging.{judge_tests, Answered, Granted, JudgedFor, Judged}
 use Rattle.judge.specs.Said.{NoneBreaks, SaysNone, LeastBreak, SaysFound}
-use Rattle.judge.specs.Rows.{many_viewed}
+use Rattle.judge.proofs.Rows.{many_viewed}
 
 -- what both clauses say of a verdict
 pub record Said (es : List Event) (m : Meaning) (v : Verdict) (list : List ℕ) : Type 0 where

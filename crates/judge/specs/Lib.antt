@@ -5,4 +5,4 @@ pub mod Decided
 pub mod Judging
 pub mod Said
 pub mod Laws
-pub mod Rows
+pub mod Keys

@@ -1,6 +1,6 @@
 // Rows in which pairs are listed.
 ghost use Rattle.judge.specs.Viewed.{pair_in, is_pair};
-ghost use Rattle.judge.specs.Rows.{decides_pair};
+ghost use Rattle.judge.specs.Keys.{decides_pair};
 
 use explore::{Entry, Traced};
 use pairs::Pair;

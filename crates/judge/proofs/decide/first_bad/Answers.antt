@@ -1,5 +1,5 @@
 use Rattle.judge.specs.Decided.{ends}
-use Rattle.judge.specs.Rows.{passes, none_more}
+use Rattle.judge.proofs.Rows.{passes, none_more}
 use Rattle.judge.proofs.decide.first_bad.Goals as goal
 
 pub returns-then-ends_badly : goal.returns-then-ends_badly

@@ -1,9 +1,9 @@
-use Rattle.std.proofs.Common.{◌≡◌, Bool, ◌&&◌, eqb, sym, ap, ◌∙◌}
+use Rattle.std.proofs.Common.{Bool, ◌&&◌, sym, ap, ◌∙◌}
 use Rattle.std.proofs.lemmas.Bool.{eq-eqb}
 use Rattle.std.proofs.lemmas.Bool.Decides.{same_from_decides, Decides-eqb}
 use Rattle.std.proofs.lemmas.Slice.Eq.{slice_eq-Decides}
 use Rattle.order.specs.Reached.{same_counts}
-use Rattle.judge.specs.Rows.{decides_counts}
+use Rattle.judge.specs.Keys.{decides_counts}
 use Rattle.judge.proofs.row.SearchRowKeyedPair.matches.Goals as goal
 
 pub returns : goal.returns

@@ -1,23 +1,13 @@
 -- Rows and the pairs in them.
-use Rattle.std.specs.Prelude.{◌≡◌, ℕ, ◌+◌, ◌<◌, Bool, true, false, List, [], ◌∷◌, map, length, replicate, Decides, slice_index_or, refl}
-use Rattle.std.proofs.Common.{sym, ap, subst, ◌∙◌, inl, inr, rules, arith}
-use Rattle.std.proofs.lemmas.Slice.Eq.{compares_Decides}
+use Rattle.std.specs.Prelude.{◌≡◌, ℕ, ◌+◌, ◌<◌, Bool, true, false, List, [], ◌∷◌, map, length, replicate, slice_index_or, refl}
+use Rattle.std.proofs.Common.{sym, ap, ◌∙◌, inl, inr, arith}
 use Rattle.std.proofs.lemmas.List.{get_or-map, get_or_default, length-map}
 use Rattle.std.proofs.lemmas.Bool.{cases_eq, false≢true}
 use Rattle.rows.specs.First.{NoneBelow}
-use Rattle.order.specs.Reached.{same_counts}
 use Rattle.explore.specs.Rows.{Row, row_of, At}
 use Rattle.pairs.specs.declared.pair.Pair.{Pair}
-use Rattle.pairs.specs.Pairs.{same}
-use Rattle.pairs.proofs.Levels.{told}
 use Rattle.judge.specs.declared.row.SearchRow.{SearchRow}
-use Rattle.judge.specs.Viewed.{pair_in, is_pair, viewed}
-
-pub decides_counts : (xs ys : List ℕ) → Decides (same_counts xs ys) (xs ≡ ys)
-decides_counts = compares_Decides same_counts (search rules)
-
-pub decides_pair : (x : Pair) (row : SearchRow) → Decides (is_pair x row) (pair_in row ≡ x)
-decides_pair x row = (told.equal (pair_in row) x, λ e. subst (λ (z : Pair). same (pair_in row) z ≡ true) e (told.self (pair_in row)))
+use Rattle.judge.specs.Viewed.{pair_in, viewed}
 
 -- read only past the end of rows
 abbrev pub no_row : SearchRow
