@@ -50,7 +50,7 @@ class Checker:
         require(not outcome.late, "late", outcome.wall)
         require(outcome.signal == 0, "signal", outcome.signal)
         if feed == "closed":
-            require((outcome.status, outcome.output, outcome.errors) == (1, b"", b"cannot read the recording\n"), "closed", outcome)
+            require((outcome.status, outcome.output, outcome.errors) == (1, b"", b""), "closed", outcome)
             return
         require(outcome.errors == b"", "standard error", outcome.errors)
         fault, none, found = (shape.fullmatch(outcome.output) for shape in (FAULT, NONE, FOUND))

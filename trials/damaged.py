@@ -22,7 +22,7 @@ from running import KIB, Limits, Runner
 from sorts import RANDOM, chosen, made, of_one_sort
 from wrong_programs import WRONG, WRONG_IN_RUNS, write
 
-PROGRAM = os.path.join(os.path.dirname(os.path.abspath(__file__)), "..", "target", "bin", "predict")
+PROGRAM = os.path.join(os.path.dirname(os.path.abspath(__file__)), "..", "crates", "predict", "out", "predict")
 SHOWN = 20
 
 
@@ -155,6 +155,8 @@ def main():
     if options.show:
         sys.stdout.buffer.write(made(options.seed, options.show[0], int(options.show[1]))[0])
         return True
+    if not os.path.exists(options.program):
+        parser.error("there is no program at %s; `rt run` in crates/predict builds it" % options.program)
     if options.self_test:
         return self_test(options.program)
     if options.least:
