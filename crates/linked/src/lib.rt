@@ -1,0 +1,8 @@
+// What programs in other languages link: the predictor as one C function.
+#![tactic(auto)]
+
+pub mod answer;
+pub mod predicting;
+
+pub use answer::Answer;
+pub use predicting::linked_predict;
