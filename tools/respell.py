@@ -11,10 +11,11 @@ Names that would fall together with another name get the one in APART.
 """
 import glob
 import re
+import subprocess
 import sys
 from pathlib import Path
 
-KIT = Path("/opt/rattle/rattle")
+KIT = Path(subprocess.run(["rt", "doc"], capture_output=True, text=True, check=True).stdout.strip()).parent / "rattle"
 WORD = r"[A-Za-z_][A-Za-z0-9_'·-]*"
 # names that would meet another one in snake case
 APART = {
