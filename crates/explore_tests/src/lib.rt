@@ -3,7 +3,7 @@
 
 ghost use Rattle.std.specs.Prelude.{◌==◌};
 ghost use Rattle.explore.specs.Walk.{walk};
-ghost use Rattle.std.proofs.Common.{rules};
+ghost use Rattle.std.specs.Cmp.{unsigned_Decides};
 
 use explore::{Entry, Machine, Traced};
 use rows::Keyed;
@@ -51,7 +51,7 @@ impl Keyed<u8> for Step {
 
     ghost has = { λ k s. (s.node == k) };
 
-    ghost decides = { Prim.search rules };
+    ghost decides = { λ k s. unsigned_Decides s.node k };
 
     fn matches(&self, key: u8) -> bool {
         self.node == key

@@ -6,3 +6,6 @@ pub mod predicting;
 
 pub use answer::Answer;
 pub use predicting::linked_predict;
+
+#[cfg(test)]
+mod tests;

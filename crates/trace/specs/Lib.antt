@@ -2,3 +2,4 @@ pub mod Fields
 pub mod Steps
 pub mod Meaning
 pub mod Places
+pub mod Keys

@@ -1,6 +1,6 @@
 // Events are looked up by their place in their thread.
 ghost use Rattle.trace.specs.Places.{place_of, is_at};
-ghost use Rattle.std.proofs.Common.{rules};
+ghost use Rattle.trace.specs.Keys.{decides_place};
 
 use events::Event;
 use rows::Keyed;
@@ -17,7 +17,7 @@ impl Keyed<Place> for Event {
 
     ghost has = { is_at };
 
-    ghost decides = { Prim.search rules };
+    ghost decides = { decides_place };
 
     fn matches(&self, key: Place) -> bool {
         self.thread == key.thread && self.place == key.place
