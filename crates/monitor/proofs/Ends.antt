@@ -1,22 +1,12 @@
 -- Runs of a monitor, and what the law says of them.
-use Rattle.std.proofs.Common.{◌≡◌, ℕ, ◌+◌, ◌<◌, true, List, [], ◌∷◌, ◌++◌, length, get_or, take, drop, Decides, fold, sym, refl, ap, ◌∙◌, le_refl, take-append-drop, take_all}
-use Rattle.std.proofs.lemmas.List.Sums.{fold_more}
+use Rattle.std.proofs.Common.{◌≡◌, ℕ, true, List, [], ◌∷◌, ◌++◌, length, take, drop, Decides, fold, sym, ap, ◌∙◌, le_refl, take-append-drop, take_all}
+use Rattle.std.proofs.lemmas.List.Sums.{fold-append}
 use Rattle.events.specs.declared.event.Action.{Action}
 use Rattle.monitor.specs.Meaning.{Meaning, ran, Violates}
 
--- one turn of a loop over the actions
-pub ran_more : (m : Meaning) (actions : List Action) (i : ℕ) (d : Action) (old new : ℕ) → i < length actions
-    → old ≡ ran m (take i actions) → new ≡ m.step old (get_or actions i d) → new ≡ ran m (take (i + 1) actions)
-ran_more m actions i d old new h was is =
-    is ∙ ap (λ c. m.step c (get_or actions i d)) was ∙ sym (fold_more m.step m.start actions i d h)
-
-pub folded_append : (m : Meaning) (xs ys : List Action) (c : ℕ) → fold m.step c (xs ++ ys) ≡ fold m.step (fold m.step c xs) ys
-folded_append m [] ys c = refl
-folded_append m (x ∷ xs) ys c = folded_append m xs ys (m.step c x)
-
 -- one more action at the end
 pub ran_push : (m : Meaning) (xs : List Action) (x : Action) → ran m (xs ++ (x ∷ [])) ≡ m.step (ran m xs) x
-ran_push m xs x = folded_append m xs (x ∷ []) m.start
+ran_push m xs x = fold-append m.step m.start xs (x ∷ [])
 
 pub bad_after : (m : Meaning) (xs : List Action) (c : ℕ) → m.bad c ≡ true → m.bad (fold m.step c xs) ≡ true
 bad_after m [] c h = h
@@ -25,7 +15,7 @@ bad_after m (x ∷ xs) c h = bad_after m xs (m.step c x) (m.stays c x h)
 pub bad_at_end : (m : Meaning) (xs : List Action) (k : ℕ) → m.bad (ran m (take k xs)) ≡ true → m.bad (ran m xs) ≡ true
 bad_at_end m xs k h =
     let whole : ran m xs ≡ fold m.step (ran m (take k xs)) (drop k xs) =
-    ap (ran m) (sym (take-append-drop k xs)) ∙ folded_append m (take k xs) (drop k xs) m.start in
+    ap (ran m) (sym (take-append-drop k xs)) ∙ fold-append m.step m.start (take k xs) (drop k xs) in
     ap m.bad whole ∙ bad_after m (drop k xs) (ran m (take k xs)) h
 
 -- the end code tells

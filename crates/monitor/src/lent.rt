@@ -1,24 +1,19 @@
-// A monitor that is lent.
+// A monitor that is lent watches as the one behind the reference.
 use crate::monitor::Monitor;
 use events::Action;
 
-#[derive(Clone, Copy)]
-pub struct Lent<'a, M> {
-    pub of: &'a M,
-}
-
-impl<'a, M: Monitor> Monitor for Lent<'a, M> {
-    ghost meaning = { λ l. M.Monitor.meaning l.of.now };
+impl<'a, M: Monitor> Monitor for &'a M {
+    ghost meaning = { λ lent. M.Monitor.meaning lent.now };
 
     fn start(&self) -> u64 {
-        self.of.start()
+        (**self).start()
     }
 
     fn step(&self, code: u64, action: Action) -> u64 {
-        self.of.step(code, action)
+        (**self).step(code, action)
     }
 
     fn bad(&self, code: u64) -> bool {
-        self.of.bad(code)
+        (**self).bad(code)
     }
 }

@@ -8,6 +8,5 @@ pub mod monitor;
 pub mod runs;
 
 pub use either::Either;
-pub use lent::Lent;
 pub use monitor::Monitor;
 pub use runs::{Verdict, run};

@@ -6,6 +6,7 @@ use crate::monitor::Monitor;
 use events::Action;
 
 // What a monitor says of a run: the code at its end, and whether the run violates.
+// Stays a number beside a flag: a replay gives both, whether the run violates or not.
 #[derive(Clone, Copy, Debug, PartialEq, Eq)]
 pub struct Verdict {
     pub code: u64,
