@@ -1,13 +1,9 @@
 -- The first place of a list at which a test holds, and at which a key stands.
-use Rattle.std.specs.Prelude.{◌≡◌, ℕ, ◌+◌, ◌<◌, Bool, cond, List, [], ◌∷◌, length, Some, None, Option, ◌≢◌, slice_index_or}
+use Rattle.std.specs.Prelude.{◌≡◌, ℕ, ◌<◌, Bool, List, length, Some, None, Option, ◌≢◌, slice_index_or, position}
 
--- the first place at which the test holds, where the list's own first place is i
-abbrev pub first_from : {R : Type 0} → (R → Bool) → ℕ → List R → Option ℕ
-first_from test i [] = None
-first_from test i (x ∷ xs) = cond (test x) (Some i) (first_from test (i + 1) xs)
-
+-- the first place at which the test holds
 abbrev pub first_of : {R : Type 0} → (R → Bool) → List R → Option ℕ
-first_of test xs = first_from test 0 xs
+first_of test xs = position test xs
 
 -- no place of the list below n has the key
 abbrev pub NoneBelow : {R K : Type 0} → (R → K) → K → List R → ℕ → Type 0

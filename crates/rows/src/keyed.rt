@@ -1,6 +1,6 @@
 // Rows that are looked up by a key.
-ghost use Rattle.std.specs.Prelude.{◌≡◌, Bool, Decides};
-ghost use Rattle.rows.specs.First.{first_of, StandsFirst};
+ghost use Rattle.std.specs.Prelude.{◌≡◌, Bool, Decides, position};
+ghost use Rattle.rows.specs.First.{StandsFirst};
 
 // A row that has a key of type K. `has` is the test whether it has a given one.
 pub trait Keyed<K> {
@@ -16,13 +16,8 @@ pub trait Keyed<K> {
 
 // The place of the first row with the key.
 pub fn find_in<K: Copy, R: Keyed<K>>(rows: &[R], key: K) -> Option<usize>
-    ensures value { result ≡ first_of (R.Keyed.has key) rows.now }
+    ensures value { result ≡ position (R.Keyed.has key) rows.now }
     ensures first { StandsFirst R.Keyed.keyed key rows.now result }
 {
-    for (i, row) in rows.iter().enumerate() {
-        if row.matches(key) {
-            return Some(i);
-        }
-    }
-    None
+    rows.iter().position(|row| row.matches(key))
 }

@@ -1,6 +1,5 @@
 // A list over lent rows, which adds at its end.
-ghost use Rattle.std.specs.Prelude.{◌≡◌, ◌+◌, [], ◌∷◌, ◌++◌, if◌then◌else◌, slice_set};
-ghost use Rattle.rows.specs.Listed.{lent, count, listed, loan, roomy, pushed_at};
+ghost use Rattle.std.specs.Prelude.{◌≡◌, ◌≤◌, ◌+◌, [], ◌∷◌, ◌++◌, if◌then◌else◌, length, slice_set};
 
 // Every row is used.
 #[derive(Clone, Copy, Debug, PartialEq, Eq)]
@@ -11,9 +10,12 @@ pub struct Full;
 pub struct Rows<'a, R> {
     pub(crate) rows: &'a mut [R],
     pub(crate) len: usize,
+    pub ghost within: { len ≤ length rows.now },
 }
 
 impl<'a, R: Copy> Rows<'a, R> {
+    ghost use Rattle.rows.specs.Listed.{lent, count, listed, loan, roomy, pushed_at};
+
     // An empty list over the rows.
     pub fn new(rows: &'a mut [R]) -> Rows<'a, R>
         ensures lent { lent result ≡ rows.old }

@@ -1,7 +1,6 @@
 // What a list over lent rows holds, by place and by key.
-ghost use Rattle.std.specs.Prelude.{◌≡◌, length};
-ghost use Rattle.std.specs.List.{slice_get};
-ghost use Rattle.rows.specs.First.{first_of, StandsFirst};
+ghost use Rattle.std.specs.Prelude.{◌≡◌, length, position, slice_get};
+ghost use Rattle.rows.specs.First.{StandsFirst};
 ghost use Rattle.rows.specs.Listed.{lent, count, listed};
 
 use crate::keyed::{Keyed, find_in};
@@ -26,28 +25,21 @@ impl<'a, R: Copy> Rows<'a, R> {
     pub fn as_slice(&self) -> &[R]
         ensures { result.now ≡ listed self.now }
     {
-        let rows: &[R] = &*self.rows;
-        let end = self.len;
-        if end < rows.len() {
-            &rows[0..end]
-        } else {
-            rows
-        }
+        &self.rows[..self.len]
     }
 
     // The row at a place.
     pub fn at(&self, i: usize) -> Option<R>
         ensures { result ≡ slice_get (listed self.now) i }
     {
-        let rows = self.as_slice();
-        if i < rows.len() { Some(rows[i]) } else { None }
+        self.as_slice().get(i).copied()
     }
 
     // The place of the first row with the key.
     pub fn find<K: Copy>(&self, key: K) -> Option<usize>
     where
         R: Keyed<K>,
-        ensures value { result ≡ first_of (R.Keyed.has key) (listed self.now) }
+        ensures value { result ≡ position (R.Keyed.has key) (listed self.now) }
         ensures first { StandsFirst R.Keyed.keyed key (listed self.now) result }
     {
         find_in(self.as_slice(), key)
