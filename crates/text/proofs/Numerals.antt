@@ -12,7 +12,7 @@ use Rattle.grammar.specs.Recording.{TenDigits}
 use Rattle.text.specs.declared.place.Place.{Place}
 use Rattle.text.specs.declared.fault.TextFault.{TextFault}
 use Rattle.text.specs.declared.fault.TextFault.TheVariants.{OutOfRange}
-use Rattle.text.specs.Ranges.{if_fits, small_number, wide_number}
+use Rattle.text.specs.Ranges.{ParsedAt, if_fits, small_number, told_at, wide_number}
 
 own : IsNumeralModel (AllDigits 10) (digits_value 10)
 own = numerals_by_value (AllDigits 10) tells_digits
@@ -30,18 +30,13 @@ small_utf8 n bs h e = rw e (IsUtf8-from_ascii (decimal n) (IsAscii-decimal n (sm
 pub wide_utf8 : (z : ℤ) (bs : List ℕ) → TenDigits z → bs ≡ signed_decimal z → IsUtf8 bs
 wide_utf8 z bs h e = rw e (IsUtf8-from_ascii (signed_decimal z) (IsAscii-signed z (wide_range z h)))
 
--- an answer of `parse`, with the place of what it refuses
-abbrev pub answered : {A E : Type 0} → Result A E → Place → Result A TextFault
-answered (Ok v) p = Ok v
-answered (Err e) p = Err (OutOfRange p)
-
 -- where the test b decides P
-by_test : {A E : Type 0} (r : Result A E) (P : Type 0) (b : Bool) (x : A) (p : Place) → OkIff r P x → (P → b ≡ true) → (b ≡ true → P) → answered r p ≡ if_fits b x p
+by_test : {A E : Type 0} (r : Result A E) (P : Type 0) (b : Bool) (x : A) (p : Place) → OkIff r P x → (P → b ≡ true) → (b ≡ true → P) → told_at r p ≡ if_fits b x p
 by_test (Ok v) P b x p h to from = ap Ok h.1 ∙ sym (ap (λ (t : Bool). if_fits t x p) (to h.0))
 by_test (Err e) P true x p h to from = elim (h (from refl)) [ ]
 by_test (Err e) P false x p h to from = refl
 
-small_parsed : {E : Type 0} (n : ℕ) (bs : List ℕ) (r : Result ℕ E) (p : Place) → n < 10 ^ 10 → bs ≡ decimal n → ParsesUnsigned 8 10 bs r → answered r p ≡ small_number n p
+small_parsed : {E : Type 0} (n : ℕ) (bs : List ℕ) (r : Result ℕ E) (p : Place) → n < 10 ^ 10 → bs ≡ decimal n → ParsesUnsigned 8 10 bs r → told_at r p ≡ small_number n p
 small_parsed n bs r p h e reads =
     let d = decimal_is_IsNumeral n (small_range n h) in
     let same : digits_value 10 bs ≡ n = ap (digits_value 10) e ∙ d.1 in
@@ -52,7 +47,7 @@ small_parsed n bs r p h e reads =
     (λ h. let k = h.1 in grind (arith, nat_tests))
     (λ h. (some, grind (arith, nat_tests)))
 
-wide_parsed : {E : Type 0} (z : ℤ) (bs : List ℕ) (r : Result ℤ E) (p : Place) → TenDigits z → bs ≡ signed_decimal z → ParsesSigned w32 10 bs r → answered r p ≡ wide_number z p
+wide_parsed : {E : Type 0} (z : ℤ) (bs : List ℕ) (r : Result ℤ E) (p : Place) → TenDigits z → bs ≡ signed_decimal z → ParsesSigned w32 10 bs r → told_at r p ≡ wide_number z p
 wide_parsed (pos n) bs r p h e reads =
     let d = decimal_is_IsNumeral n (small_range n h) in
     let same : digits_value 10 bs ≡ n = ap (digits_value 10) e ∙ d.1 in
@@ -75,18 +70,29 @@ wide_parsed (negsuc n) bs r p h e reads =
     (λ h. let k = h.2 in grind (arith, nat_tests))
     (λ h. (all, some, grind (arith, nat_tests)))
 
--- the same of the text that `from_utf8` made of the bytes, by what `parse` answered
+-- the same of what `number` answers
+pub small_read : {E : Type 0} (bs : List ℕ) (p : Place) (r : Result ℕ TextFault) → (IsUtf8 bs → ParsedAt (ParsesUnsigned {E = E} 8 10) bs p r) → (n : ℕ) → n < 10 ^ 10 → bs ≡ decimal n → r ≡ small_number n p
+small_read bs p r told n h e =
+    let at = told (small_utf8 n bs h e) in
+    at.2 ∙ small_parsed n bs at.0 p h e at.1
+
+pub wide_read : {E : Type 0} (bs : List ℕ) (p : Place) (r : Result ℤ TextFault) → (IsUtf8 bs → ParsedAt (ParsesSigned {E = E} w32 10) bs p r) → (z : ℤ) → TenDigits z → bs ≡ signed_decimal z → r ≡ wide_number z p
+wide_read bs p r told z h e =
+    let at = told (wide_utf8 z bs h e) in
+    at.2 ∙ wide_parsed z bs at.0 p h e at.1
+
+-- the same of the text that `from_utf8` made of the bytes, by what `parse` told_at
 module _ {E : Type 0} (bs text : List ℕ) (p : Place) (same : text ≡ bs) where
   module _ (r : Result ℕ E) (reads : ParsesUnsigned 8 10 text r) where
     pub small_ok : (v : ℕ) → r ≡ Ok v → (n : ℕ) → n < 10 ^ 10 → bs ≡ decimal n → Ok v ≡ small_number n p
-    small_ok v is n h e = sym (ap (λ (x : Result ℕ E). answered x p) is) ∙ small_parsed n text r p h (same ∙ e) reads
+    small_ok v is n h e = sym (ap (λ (x : Result ℕ E). told_at x p) is) ∙ small_parsed n text r p h (same ∙ e) reads
 
     pub small_err : (d : E) → r ≡ Err d → (n : ℕ) → n < 10 ^ 10 → bs ≡ decimal n → Err (OutOfRange p) ≡ small_number n p
-    small_err d is n h e = sym (ap (λ (x : Result ℕ E). answered x p) is) ∙ small_parsed n text r p h (same ∙ e) reads
+    small_err d is n h e = sym (ap (λ (x : Result ℕ E). told_at x p) is) ∙ small_parsed n text r p h (same ∙ e) reads
 
   module _ (r : Result ℤ E) (reads : ParsesSigned w32 10 text r) where
     pub wide_ok : (v : ℤ) → r ≡ Ok v → (z : ℤ) → TenDigits z → bs ≡ signed_decimal z → Ok v ≡ wide_number z p
-    wide_ok v is z h e = sym (ap (λ (x : Result ℤ E). answered x p) is) ∙ wide_parsed z text r p h (same ∙ e) reads
+    wide_ok v is z h e = sym (ap (λ (x : Result ℤ E). told_at x p) is) ∙ wide_parsed z text r p h (same ∙ e) reads
 
     pub wide_err : (d : E) → r ≡ Err d → (z : ℤ) → TenDigits z → bs ≡ signed_decimal z → Err (OutOfRange p) ≡ wide_number z p
-    wide_err d is z h e = sym (ap (λ (x : Result ℤ E). answered x p) is) ∙ wide_parsed z text r p h (same ∙ e) reads
+    wide_err d is z h e = sym (ap (λ (x : Result ℤ E). told_at x p) is) ∙ wide_parsed z text r p h (same ∙ e) reads

@@ -31,3 +31,12 @@ small_number n p = if_fits (nat_le n 255) n p
 
 abbrev pub wide_number : ℤ → Place → Result ℤ TextFault
 wide_number z p = if_fits (nat_lt (mag z) (2 ^ 31)) z p
+
+-- what a reading of a number tells, with the place of what it does not read
+abbrev pub told_at : {A E : Type 0} → Result A E → Place → Result A TextFault
+told_at (Ok x) p = Ok x
+told_at (Err e) p = Err (OutOfRange p)
+
+-- the answer is that of some reading of the bytes
+abbrev pub ParsedAt : {A E : Type 0} → (List ℕ → Result A E → Type 0) → List ℕ → Place → Result A TextFault → Type 0
+ParsedAt {A} {E} Reads bs p r = (q : Result A E) × Reads bs q × (r ≡ told_at q p)

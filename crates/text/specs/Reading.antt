@@ -1,6 +1,8 @@
 -- What a text comes to when it is read, and what the answer says of it.
 use Rattle.std.specs.Prelude.{◌≡◌, ℕ, ◌+◌, ◌<◌, ◌≤◌, List, [], length, Ok, Err, vec_items, Result}
 use Rattle.grammar.specs.Recording as grammar
+use Rattle.grammar.specs.declared.flaw.Flaw.{Flaw}
+use Rattle.grammar.specs.declared.flaw.Flaw.TheVariants.{Wrong, Early}
 use Rattle.grammar.specs.Recording.{Formula, All, Legal, Proper, Shaped, flat, formula, pieces}
 use Rattle.text.specs.declared.recording.Recording.{Recording}
 use Rattle.text.specs.declared.fault.TextFault.{TextFault}
@@ -47,7 +49,15 @@ Answers t (Err (Text (EndsEarly p))) = Right t early × (p ≡ byte_place t (len
 Answers t (Err (Text (OutOfRange p))) = (k : ℕ) × Right t (outside k) × (p ≡ byte_place t k)
 Answers t (Err Memory) = Unit {0}
 
--- what is told of a text before it is read: that it is legal and not too long, or why it is not
-abbrev pub Admitted : List ℕ → Result (Unit {0}) TextFault → Type 0
-Admitted t (Ok u) = (length t ≤ 60000) × Legal t
-Admitted t (Err f) = Answers t (Err (Text f))
+-- the fault of a text with the flaw
+abbrev pub flaw_fault : List ℕ → Flaw → TextFault
+flaw_fault t (Wrong k) = Unexpected (byte_place t k)
+flaw_fault t Early = EndsEarly (byte_place t (length t))
+
+-- what is told of a text before it is read, where those of which Q holds are legal: that it is legal and not too long, or why it is not
+abbrev pub Admitted : (List ℕ → Type 0) → List ℕ → Result (Unit {0}) TextFault → Type 0
+Admitted Q t (Ok u) = (length t ≤ 60000) × Q t
+Admitted Q t (Err TooLong) = 60000 < length t
+Admitted Q t (Err (Unexpected p)) = (length t ≤ 60000) × ((k : ℕ) × Shaped Q t (grammar.wrong k) × (p ≡ byte_place t k))
+Admitted Q t (Err (EndsEarly p)) = (length t ≤ 60000) × Shaped Q t grammar.early × (p ≡ byte_place t (length t))
+Admitted Q t (Err (OutOfRange p)) = ⊥

@@ -3,9 +3,10 @@
 
 mod build;
 pub mod fault;
+pub mod language;
 pub mod laws;
 pub mod lexer;
-mod numbers;
+pub mod numbers;
 pub mod place;
 pub mod reader;
 pub mod reading;
@@ -13,9 +14,11 @@ pub mod recording;
 pub mod token;
 
 pub use fault::{ReadFault, TextFault};
+pub use language::{Language, Recordings, Rules};
 pub use lexer::place_at;
+pub use numbers::{small, wide};
 pub use place::Place;
 pub use reader::Reader;
-pub use reading::read;
+pub use reading::{LONGEST, admit, read};
 pub use recording::Recording;
 pub use token::Token;
