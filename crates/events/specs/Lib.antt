@@ -1,5 +1,6 @@
 pub mod Kinds
 pub mod Numbers
+pub mod Starts
 pub mod Events
 pub mod First
 pub mod Noting

@@ -1,9 +1,9 @@
 // Actions and events.
 ghost use Rattle.std.specs.Prelude.{◌≡◌};
-ghost use Rattle.events.specs.Events.{action_of};
+ghost use Rattle.events.specs.Events.{action_of, event_at};
 
-// What a thread does: an event but for its place. The kind is the kind's number, and the subject a
-// label, a variable or a lock, as the kind says.
+// What a thread does: an event but for its place. The subject is a label, a variable or a lock, as
+// the kind says. The kind stays a number, since a recorded one that is no kind's has to be answered.
 #[derive(Clone, Copy, Debug, PartialEq, Eq)]
 pub struct Action {
     pub thread: u8,
@@ -21,6 +21,27 @@ pub struct Event {
     pub kind: u8,
     pub subject: u8,
     pub value: i32,
+}
+
+impl Action {
+    // The event that the action is at a place of its thread.
+    pub fn at(self, place: u8) -> Event
+        ensures { result ≡ event_at place self }
+    {
+        let Action {
+            thread,
+            kind,
+            subject,
+            value,
+        } = self;
+        Event {
+            thread,
+            place,
+            kind,
+            subject,
+            value,
+        }
+    }
 }
 
 impl Event {

@@ -1,40 +1,43 @@
 // Kinds of events, and their numbers.
 ghost use Rattle.std.specs.Prelude.{◌≡◌};
-ghost use Rattle.events.specs.Kinds.{kind_number, kind_of};
+ghost use Rattle.events.specs.Kinds.{kind_number, kind_with};
 
 #[derive(Clone, Copy, Debug, PartialEq, Eq)]
 pub enum Kind {
-    Internal,
-    Read,
-    Write,
-    Acquire,
-    Release,
+    Internal = 0,
+    Read = 1,
+    Write = 2,
+    Acquire = 3,
+    Release = 4,
 }
 
-impl Kind {
-    pub fn number(self) -> u8
-        ensures { result ≡ kind_number self }
-    {
-        match self {
-            Kind::Internal => 0,
-            Kind::Read => 1,
-            Kind::Write => 2,
-            Kind::Acquire => 3,
-            Kind::Release => 4,
-        }
-    }
+// A number that is no kind's.
+#[derive(Clone, Copy, Debug, PartialEq, Eq)]
+pub struct NoKind;
 
-    // The kind with this number, if there is one.
-    pub fn of(number: u8) -> Option<Kind>
-        ensures { result ≡ kind_of number }
-    {
+// The kind's number.
+impl From<Kind> for u8 {
+    ghost from_gives = { λ kind number. number ≡ kind_number kind };
+
+    fn from(kind: Kind) -> u8 {
+        kind as u8
+    }
+}
+
+// The kind with this number, if there is one.
+impl TryFrom<u8> for Kind {
+    type Error = NoKind;
+
+    ghost try_from_gives = { λ number kind. kind ≡ kind_with number };
+
+    fn try_from(number: u8) -> Result<Kind, NoKind> {
         match number {
-            0 => Some(Kind::Internal),
-            1 => Some(Kind::Read),
-            2 => Some(Kind::Write),
-            3 => Some(Kind::Acquire),
-            4 => Some(Kind::Release),
-            _ => None,
+            0 => Ok(Kind::Internal),
+            1 => Ok(Kind::Read),
+            2 => Ok(Kind::Write),
+            3 => Ok(Kind::Acquire),
+            4 => Ok(Kind::Release),
+            _ => Err(NoKind),
         }
     }
 }

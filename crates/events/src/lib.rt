@@ -6,8 +6,10 @@ pub mod event;
 pub mod kind;
 pub mod lock;
 pub mod refusal;
+pub mod starts;
 
 pub use event::{Action, Event};
-pub use kind::Kind;
+pub use kind::{Kind, NoKind};
 pub use lock::Lock;
 pub use refusal::{OpenRefusal, Refusal};
+pub use starts::Starts;
