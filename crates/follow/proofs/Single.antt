@@ -1,13 +1,13 @@
 -- At most one answer is right.
-use Rattle.std.proofs.Common.{◌≡◌, ℕ, suc, List, get_or, sym, refl, ap, ◌∙◌, subst}
+use Rattle.std.proofs.Common.{◌≡◌, ℕ, suc, List, Ok, Err, Result, get_or, sym, refl, ap, ◌∙◌, subst}
 use Rattle.events.specs.declared.event.Event.{Event}
 use Rattle.order.specs.Trace.{blank, thread_at}
 use Rattle.order.specs.Cuts.{Cut, MayFollow}
 use Rattle.order.specs.Sound.{Sound}
 use Rattle.order.specs.Waiting.{HasNext, Missing, Blocked}
 use Rattle.order.proofs.Places.{same_event}
-use Rattle.follow.specs.declared.answer.Follow.{Follow}
-use Rattle.follow.specs.declared.answer.Follow.TheVariants as answer
+use Rattle.follow.specs.declared.no_next.NoNext.{NoNext}
+use Rattle.follow.specs.declared.no_next.NoNext.TheVariants as because
 use Rattle.follow.specs.Answers.{Answers, OneAnswer}
 
 module _ (es : List Event) (sound : Sound es) (c : Cut) (t : ℕ) where
@@ -33,24 +33,24 @@ module _ (es : List Event) (sound : Sound es) (c : Cut) (t : ℕ) where
   one_event : (i j : ℕ) (e f : Event) → i ≡ j → e ≡ get_or es i blank → f ≡ get_or es j blank → e ≡ f
   one_event i j e f q a b = a ∙ ap (λ z. get_or es z blank) q ∙ sym b
 
-  one : (a b : Follow) → Answers es c t a → Answers es c t b → a ≡ b
-  one (answer.Next e) (answer.Next f) x y =
-      ap answer.Next (one_event x.0 y.0 e f (one_next x.0 y.0 (the_next x.0 (x.1, x.2)) (the_next y.0 (y.1, y.2))) x.3 y.3)
-  one (answer.Next e) answer.Done x y = absurd (y x.0 (the_next x.0 (x.1, x.2)))
-  one (answer.Next e) answer.Missing x y = not_lacking x.0 y.0 (x.1, x.2) y.1 y.2
-  one (answer.Next e) answer.Blocked x y = not_crowded x.0 y.0 (x.1, x.2) y.1 y.3
-  one answer.Done (answer.Next f) x y = absurd (x y.0 (the_next y.0 (y.1, y.2)))
-  one answer.Done answer.Done x y = refl
-  one answer.Done answer.Missing x y = absurd (x y.0 y.1)
-  one answer.Done answer.Blocked x y = absurd (x y.0 y.1)
-  one answer.Missing (answer.Next f) x y = not_lacking y.0 x.0 (y.1, y.2) x.1 x.2
-  one answer.Missing answer.Done x y = absurd (y x.0 x.1)
-  one answer.Missing answer.Missing x y = refl
-  one answer.Missing answer.Blocked x y = not_full x.0 y.0 x.1 x.2 y.1 y.2
-  one answer.Blocked (answer.Next f) x y = not_crowded y.0 x.0 (y.1, y.2) x.1 x.3
-  one answer.Blocked answer.Done x y = absurd (y x.0 x.1)
-  one answer.Blocked answer.Missing x y = not_full y.0 x.0 y.1 y.2 x.1 x.2
-  one answer.Blocked answer.Blocked x y = refl
+  one : (a b : Result Event NoNext) → Answers es c t a → Answers es c t b → a ≡ b
+  one (Ok e) (Ok f) x y =
+      ap Ok (one_event x.0 y.0 e f (one_next x.0 y.0 (the_next x.0 (x.1, x.2)) (the_next y.0 (y.1, y.2))) x.3 y.3)
+  one (Ok e) (Err because.Done) x y = absurd (y x.0 (the_next x.0 (x.1, x.2)))
+  one (Ok e) (Err because.Missing) x y = not_lacking x.0 y.0 (x.1, x.2) y.1 y.2
+  one (Ok e) (Err because.Blocked) x y = not_crowded x.0 y.0 (x.1, x.2) y.1 y.3
+  one (Err because.Done) (Ok f) x y = absurd (x y.0 (the_next y.0 (y.1, y.2)))
+  one (Err because.Done) (Err because.Done) x y = refl
+  one (Err because.Done) (Err because.Missing) x y = absurd (x y.0 y.1)
+  one (Err because.Done) (Err because.Blocked) x y = absurd (x y.0 y.1)
+  one (Err because.Missing) (Ok f) x y = not_lacking y.0 x.0 (y.1, y.2) x.1 x.2
+  one (Err because.Missing) (Err because.Done) x y = absurd (y x.0 x.1)
+  one (Err because.Missing) (Err because.Missing) x y = refl
+  one (Err because.Missing) (Err because.Blocked) x y = not_full x.0 y.0 x.1 x.2 y.1 y.2
+  one (Err because.Blocked) (Ok f) x y = not_crowded y.0 x.0 (y.1, y.2) x.1 x.3
+  one (Err because.Blocked) (Err because.Done) x y = absurd (y x.0 x.1)
+  one (Err because.Blocked) (Err because.Missing) x y = not_full y.0 x.0 y.1 y.2 x.1 x.2
+  one (Err because.Blocked) (Err because.Blocked) x y = refl
 
 pub one_answer : OneAnswer
 one_answer es sound c t a b x y = one es sound c t a b x y

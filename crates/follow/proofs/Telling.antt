@@ -1,12 +1,12 @@
 -- What the tables answer, as a function of the cut and the thread, is right at every cut that a path reaches.
-use Rattle.std.proofs.Common.{◌≡◌, ℕ, suc, ◌+◌, ◌<◌, ◌≤◌, Bool, true, false, cond, ◌&&◌, ◌||◌, eqb, ltb, leb, ◌⊎◌, List, get_or, Decides, sym, refl, ap, ◌∙◌, inl, inr, arith}
+use Rattle.std.proofs.Common.{◌≡◌, ℕ, suc, ◌+◌, ◌<◌, ◌≤◌, Bool, true, false, cond, ◌&&◌, ◌||◌, eqb, ltb, leb, ◌⊎◌, List, get_or, Ok, Err, Decides, sym, refl, ap, ◌∙◌, inl, inr, arith}
 use Rattle.std.proofs.lemmas.Bool.{eqb-true, eq-eqb, ltb-true, lt-ltb, leb-true, leb-false, le-leb, lt-leb, and_parts, and_from, or_from, or_left, or_right, cond-true, cond-false, both_ways}
 use Rattle.std.proofs.lemmas.Bool.Decides.{same_from_decides, not_from_Decides, Decides-or}
 use Rattle.events.specs.declared.event.Event.{Event}
 use Rattle.order.specs.Trace.{blank}
 use Rattle.order.specs.Waiting.{HasNext, Missing}
 use Rattle.order.specs.Reached.{cut_of}
-use Rattle.follow.specs.declared.answer.Follow.TheVariants as answer
+use Rattle.follow.specs.declared.no_next.NoNext.TheVariants as because
 use Rattle.follow.specs.declared.role.Role.{Role}
 use Rattle.follow.specs.declared.role.Role.TheVariants.{Lead, Take, Apart}
 use Rattle.follow.specs.declared.tables.Tables.{Tables}
@@ -114,23 +114,23 @@ module _ (v : Tables) (cut : List ℕ) where
       supplied_value : supplied_by cut source ≡ s
       supplied_value = same_from_decides (supplied_by cut source) s (decides_supplied cut source) supplied
 
-      pub missing_value : s ≡ false → answer.Missing ≡ next_in v cut t
+      pub missing_value : s ≡ false → (Err because.Missing) ≡ next_in v cut t
       missing_value h = sym (told_value ∙ cond-false (supplied_by cut source) _ _ (supplied_value ∙ h))
 
       module _ (r : Bool) (blocked : BlockedBy v cut event r) (has : s ≡ true) where
-        pub blocked_next : r ≡ true → answer.Blocked ≡ next_in v cut t
+        pub blocked_next : r ≡ true → (Err because.Blocked) ≡ next_in v cut t
         blocked_next h =
             sym (told_value ∙ cond-true (supplied_by cut source) _ _ (supplied_value ∙ has) ∙ cond-true (blocked_as v cut (role_for event.kind event.subject)) _ _ (sym (blocked_value event r blocked) ∙ h))
 
-        pub free_next : r ≡ false → answer.Next event ≡ next_in v cut t
+        pub free_next : r ≡ false → Ok event ≡ next_in v cut t
         free_next h =
             sym (told_value ∙ cond-true (supplied_by cut source) _ _ (supplied_value ∙ has) ∙ cond-false (blocked_as v cut (role_for event.kind event.subject)) _ _ (sym (blocked_value event r blocked) ∙ h))
 
-  pub beyond_value : (t : ℕ) → 8 ≤ t → answer.Done ≡ next_in v cut t
+  pub beyond_value : (t : ℕ) → 8 ≤ t → (Err because.Done) ≡ next_in v cut t
   beyond_value t h =
       sym (cond-true (leb 8 t || leb (get_or v.counts t 0) (get_or cut t 0)) _ _ (or_left (leb 8 t) (leb (get_or v.counts t 0) (get_or cut t 0)) (le-leb 8 t h)))
 
-  pub done_value : (t : ℕ) → get_or v.counts t 0 ≤ get_or cut t 0 → answer.Done ≡ next_in v cut t
+  pub done_value : (t : ℕ) → get_or v.counts t 0 ≤ get_or cut t 0 → (Err because.Done) ≡ next_in v cut t
   done_value t h =
       sym (cond-true (leb 8 t || leb (get_or v.counts t 0) (get_or cut t 0)) _ _ (or_right (leb 8 t) (leb (get_or v.counts t 0) (get_or cut t 0)) (le-leb (get_or v.counts t 0) (get_or cut t 0) h)))
 
@@ -161,7 +161,7 @@ module _ (es : List Event) (v : Tables) (made : MadeOf es v) (cut : List ℕ) (r
     blocked_by = (role_for e.kind e.subject, role_for_lem e.kind e.subject, as_blocked (role_for e.kind e.subject))
 
     told_right : (s r : Bool) → supplied_by cut (get_or v.sources at (0, 0)) ≡ s → blocked_as v cut (role_for e.kind e.subject) ≡ r
-        → Answers es (cut_of cut) t (cond s (cond r answer.Blocked (answer.Next e)) answer.Missing)
+        → Answers es (cut_of cut) t (cond s (cond r (Err because.Blocked) (Ok e)) (Err because.Missing))
     told_right false r p q = (
       next.0,
       next.1,
@@ -179,7 +179,7 @@ module _ (es : List Event) (v : Tables) (made : MadeOf es v) (cut : List ℕ) (r
         )
 
   answers_by : (a b : Bool) → leb 8 t ≡ a → leb (get_or v.counts t 0) (get_or cut t 0) ≡ b
-      → Answers es (cut_of cut) t (cond (a || b) answer.Done (told_of v cut (get_or v.sources (slot_of t (suc (get_or cut t 0))) (0, 0)) (get_or v.events (slot_of t (suc (get_or cut t 0))) blank)))
+      → Answers es (cut_of cut) t (cond (a || b) (Err because.Done) (told_of v cut (get_or v.sources (slot_of t (suc (get_or cut t 0))) (0, 0)) (get_or v.events (slot_of t (suc (get_or cut t 0))) blank)))
   answers_by true b p q = no_thread es v made cut t (leb-true 8 t p)
   answers_by false true p q = none_next es v made cut t (leb-false 8 t p) (leb-true (get_or v.counts t 0) (get_or cut t 0) q)
   answers_by false false p q = told_right (leb-false 8 t p) (leb-false (get_or v.counts t 0) (get_or cut t 0) q) _ _ refl refl

@@ -1,9 +1,9 @@
 -- What the look-ups add up.
-use Rattle.std.specs.Prelude.{◌≡◌, ℕ, suc, ◌+◌, ◌<◌, Bool, false, cond, not, ◌&&◌, ◌||◌, List, ◌==◌, nat_le, nat_lt, slice_index, slice_index_or}
+use Rattle.std.specs.Prelude.{◌≡◌, ℕ, suc, ◌+◌, ◌<◌, Bool, false, cond, not, ◌&&◌, ◌||◌, List, Ok, Err, Result, ◌==◌, nat_le, nat_lt, slice_index, slice_index_or}
 use Rattle.events.specs.declared.event.Event.{Event}
 use Rattle.order.specs.Trace.{blank}
-use Rattle.follow.specs.declared.answer.Follow.{Follow}
-use Rattle.follow.specs.declared.answer.Follow.TheVariants as answer
+use Rattle.follow.specs.declared.no_next.NoNext.{NoNext}
+use Rattle.follow.specs.declared.no_next.NoNext.TheVariants as because
 use Rattle.follow.specs.declared.role.Role.{Role}
 use Rattle.follow.specs.declared.role.Role.TheVariants.{Lead, Take, Apart}
 use Rattle.follow.specs.declared.tables.Tables.{Tables}
@@ -49,12 +49,12 @@ abbrev pub supplied_by : List ℕ → ℕ × ℕ → Bool
 supplied_by cut source = nat_le 8 source.0 || nat_le source.1 (slice_index cut source.0)
 
 -- what is said of the event e, which has this source
-abbrev pub told_of : Tables → List ℕ → ℕ × ℕ → Event → Follow
+abbrev pub told_of : Tables → List ℕ → ℕ × ℕ → Event → Result Event NoNext
 told_of tables cut source e =
-    cond (supplied_by cut source) (cond (blocked_as tables cut (role_for e.kind e.subject)) answer.Blocked (answer.Next e)) answer.Missing
+    cond (supplied_by cut source) (cond (blocked_as tables cut (role_for e.kind e.subject)) (Err because.Blocked) (Ok e)) (Err because.Missing)
 
 -- what the tables answer of the cut and thread t
-abbrev pub next_in : Tables → List ℕ → ℕ → Follow
+abbrev pub next_in : Tables → List ℕ → ℕ → Result Event NoNext
 next_in tables cut t =
-    cond (nat_le 8 t || nat_le (slice_index tables.counts t) (slice_index cut t)) answer.Done
+    cond (nat_le 8 t || nat_le (slice_index tables.counts t) (slice_index cut t)) (Err because.Done)
     (told_of tables cut (slice_index_or tables.sources (slot_of t (suc (slice_index cut t))) (0, 0)) (slice_index_or tables.events (slot_of t (suc (slice_index cut t))) blank))

@@ -1,12 +1,12 @@
 // Which event may follow a cut, decided from tables that are made once for a noted list.
 #![tactic(auto)]
 
-pub mod answer;
 mod fill;
 mod next;
+pub mod no_next;
 pub(crate) mod role;
 pub mod tables;
 pub mod theory;
 
-pub use answer::Follow;
+pub use no_next::NoNext;
 pub use tables::Tables;

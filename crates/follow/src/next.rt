@@ -1,14 +1,14 @@
 // What comes next of a thread, by look-ups.
-ghost use Rattle.std.specs.Prelude.{◌≡◌, ℕ, ◌<◌, ◌≤◌, ◌⊎◌, List, Decides, slice_index};
+ghost use Rattle.std.specs.Prelude.{◌≡◌, ℕ, ◌<◌, ◌≤◌, ◌⊎◌, List, Ok, Err, Decides, slice_index};
 ghost use Rattle.events.specs.declared.event.Event.{Event as AnEvent};
 ghost use Rattle.order.specs.Reached.{cut_of};
-ghost use Rattle.follow.specs.declared.answer.Follow.TheVariants.{Next, Done};
+ghost use Rattle.follow.specs.declared.no_next.NoNext.TheVariants.{Done};
 ghost use Rattle.follow.specs.Balance.{Reached};
 ghost use Rattle.follow.specs.Answers.{Answers};
 ghost use Rattle.follow.specs.Made.{MadeOf};
 ghost use Rattle.follow.specs.Looking.{unbalanced, BlockedBy, next_in};
 
-use crate::answer::Follow;
+use crate::no_next::NoNext;
 use crate::role::{Role, role_of};
 use crate::tables::{OBJECTS, Tables, slot};
 use events::Event;
@@ -55,27 +55,27 @@ impl Tables {
     }
 
     // The next event of the thread, where it may follow the cut, or why there is none.
-    pub fn next(&self, cut: [u8; 8], thread: u8) -> Follow
+    pub fn next(&self, cut: [u8; 8], thread: u8) -> Result<Event, NoNext>
         ensures answers { (es : List AnEvent) → MadeOf es self.now → Reached es (cut_of cut) → Answers es (cut_of cut) thread result }
-        ensures beyond { 8 ≤ thread → result ≡ Done }
+        ensures beyond { 8 ≤ thread → result ≡ Err Done }
         ensures value { result ≡ next_in self.now cut thread }
-        ensures more { (e : AnEvent) → result ≡ Next e → (thread < 8) × (slice_index cut thread < 255) }
+        ensures more { (e : AnEvent) → result ≡ Ok e → (thread < 8) × (slice_index cut thread < 255) }
     {
         if thread >= THREADS {
-            return Follow::Done;
+            return Err(NoNext::Done);
         }
         let done = cut[thread as usize];
         if done >= self.counts[thread as usize] {
-            return Follow::Done;
+            return Err(NoNext::Done);
         }
         let at = slot(thread, done + 1);
         if !supplied(cut, self.sources[at]) {
-            return Follow::Missing;
+            return Err(NoNext::Missing);
         }
         let e = self.events[at];
         if self.blocked(cut, e) {
-            return Follow::Blocked;
+            return Err(NoNext::Blocked);
         }
-        Follow::Next(e)
+        Ok(e)
     }
 }

@@ -3,15 +3,11 @@ ghost use Rattle.follow.specs.Balance.{BalanceLaw};
 ghost use Rattle.follow.specs.Answers.{OneAnswer};
 
 // What is led into a cut is taken or waits.
-pub fn balance() -> u8
+pub fn balance()
     ensures { BalanceLaw }
-{
-    0
-}
+{}
 
 // At most one answer is right, so each is given exactly when it is.
-pub fn one_answer() -> u8
+pub fn one_answer()
     ensures { OneAnswer }
-{
-    0
-}
+{}

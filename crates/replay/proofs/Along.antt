@@ -1,5 +1,5 @@
 -- Along a replay.
-use Rattle.std.proofs.Common.{◌≡◌, ℕ, zero, suc, ◌+◌, ◌<◌, ◌≤◌, ◌⊎◌, List, [], ◌∷◌, ◌++◌, map, length, get_or, take, drop, set, sym, refl, ap, ◌∙◌, subst, ap₂, inl, inr, append_assoc, append-nil, arith, take-append-drop, drop-cons}
+use Rattle.std.proofs.Common.{◌≡◌, ℕ, zero, suc, ◌+◌, ◌<◌, ◌≤◌, ◌⊎◌, List, Err, [], ◌∷◌, ◌++◌, map, length, get_or, take, drop, set, sym, refl, ap, ◌∙◌, subst, ap₂, inl, inr, append_assoc, append-nil, arith, take-append-drop, drop-cons}
 use mathlib.Core.Path.{fun_ext}
 use Rattle.std.proofs.lemmas.List.{map-append, get_or-set_same, get_or-set_other}
 use Rattle.std.proofs.lemmas.Bool.{cases_lt, cases_eq, cases_order}
@@ -22,7 +22,7 @@ use Rattle.monitor.specs.Meaning.{Meaning, ran}
 use Rattle.monitor.proofs.Ends.{ran_push}
 use Rattle.follow.specs.Balance.{ThreadsBelow}
 use Rattle.follow.specs.Answers.{Answers}
-use Rattle.follow.specs.declared.answer.Follow.TheVariants as answer
+use Rattle.follow.specs.declared.no_next.NoNext.TheVariants as because
 use Rattle.follow.proofs.Counting.{number_like, number_le, number_none, number_sum}
 use Rattle.replay.specs.declared.refusal.ReplayRefusal.{ReplayRefusal}
 use Rattle.replay.specs.declared.refusal.ReplayRefusal.TheVariants as refusal
@@ -150,13 +150,13 @@ module _ (es : List Event) (sound : Sound es) where
   pub stops_thread : (n : ℕ) → ThreadsBelow es n → Stops (λ t c. n ≤ t)
   stops_thread n few t c l i m e = omega (arith, few i m.noted)
 
-  pub stops_done : (n : ℕ) → Stops (λ t c. (t < n) × Answers es c t answer.Done)
+  pub stops_done : (n : ℕ) → Stops (λ t c. (t < n) × Answers es c t (Err because.Done))
   stops_done n t c a i m e = a.1 i (the_next c t i m e)
 
-  pub stops_missing : (n : ℕ) → Stops (λ t c. (t < n) × Answers es c t answer.Missing)
+  pub stops_missing : (n : ℕ) → Stops (λ t c. (t < n) × Answers es c t (Err because.Missing))
   stops_missing n t c (l, a) i m e = let m' = the_same c t a.0 i m e a.1 in a.2.3 (m'.ready a.2.0 a.2.1 a.2.2)
 
-  pub stops_blocked : (n : ℕ) → Stops (λ t c. (t < n) × Answers es c t answer.Blocked)
+  pub stops_blocked : (n : ℕ) → Stops (λ t c. (t < n) × Answers es c t (Err because.Blocked))
   stops_blocked n t c (l, a) i m e = let m' = the_same c t a.0 i m e a.1 in m'.alone a.3.0 a.3.1 a.3.2 a.3.3
 
   stopped : (ts : List ℕ) (p : ℕ) (P : ℕ → Cut → Type 0) → Stops P → RefusedAt es ts p P → RunOf es ts → ⊥
@@ -166,9 +166,9 @@ module _ (es : List Event) (sound : Sound es) where
   no_run n few ts refusal.Void d = absurd d
   no_run n few ts refusal.Length d = λ h. d (sym (ap length h.2) ∙ length_threads es h.0 ∙ run_length es h.0 h.1.ordering)
   no_run n few ts (refusal.Thread p) d = stopped ts p (λ t c. n ≤ t) (stops_thread n few) d
-  no_run n few ts (refusal.Done p) d = stopped ts p (λ t c. (t < n) × Answers es c t answer.Done) (stops_done n) d
-  no_run n few ts (refusal.Missing p) d = stopped ts p (λ t c. (t < n) × Answers es c t answer.Missing) (stops_missing n) d
-  no_run n few ts (refusal.Blocked p) d = stopped ts p (λ t c. (t < n) × Answers es c t answer.Blocked) (stops_blocked n) d
+  no_run n few ts (refusal.Done p) d = stopped ts p (λ t c. (t < n) × Answers es c t (Err because.Done)) (stops_done n) d
+  no_run n few ts (refusal.Missing p) d = stopped ts p (λ t c. (t < n) × Answers es c t (Err because.Missing)) (stops_missing n) d
+  no_run n few ts (refusal.Blocked p) d = stopped ts p (λ t c. (t < n) × Answers es c t (Err because.Blocked)) (stops_blocked n) d
 
   -- the threads us, one by one, lead from the cut c to the cut d
   abbrev Walk : Cut → List ℕ → Cut → Type 0

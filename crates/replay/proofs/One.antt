@@ -6,8 +6,8 @@ use Rattle.order.specs.Sound.{Sound}
 use Rattle.order.proofs.OneRun.{one_run}
 use Rattle.monitor.specs.declared.runs.Verdict.{Verdict}
 use Rattle.monitor.specs.Meaning.{Meaning, ran}
-use Rattle.follow.specs.declared.answer.Follow.{Follow}
-use Rattle.follow.specs.declared.answer.Follow.TheVariants as answer
+use Rattle.follow.specs.declared.no_next.NoNext.{NoNext}
+use Rattle.follow.specs.declared.no_next.NoNext.TheVariants as because
 use Rattle.follow.specs.Balance.{ThreadsBelow}
 use Rattle.follow.specs.Answers.{Answers}
 use Rattle.follow.proofs.Single.{one_answer}
@@ -17,7 +17,7 @@ use Rattle.replay.specs.Outcome.{actions_of, Refused, Replayed, Outcome, OneOutc
 use Rattle.replay.proofs.Along.{together, stops_thread, stops_done, stops_missing, stops_blocked}
 
 module _ (es : List Event) (sound : Sound es) (n : ℕ) (few : ThreadsBelow es n) (ts : List ℕ) where
-  abbrev Says : Follow → ℕ → Cut → Type 0
+  abbrev Says : Result Event NoNext → ℕ → Cut → Type 0
   Says a t c = (t < n) × Answers es c t a
 
   abbrev Far : ℕ → Cut → Type 0
@@ -41,46 +41,46 @@ module _ (es : List Event) (sound : Sound es) (n : ℕ) (few : ThreadsBelow es n
   one (refusal.Blocked p) refusal.Length x y = absurd (y x.3.even)
   one (refusal.Thread p) (refusal.Thread q) x y = ap refusal.Thread (together es sound ts p q Far Far (stops_thread es sound n few) (stops_thread es sound n few) x y).same
   one (refusal.Thread p) (refusal.Done q) x y =
-      let z = together es sound ts p q Far (Says answer.Done) (stops_thread es sound n few) (stops_done es sound n) x y in absurd (omega (arith, z.left, z.right.0))
+      let z = together es sound ts p q Far (Says (Err because.Done)) (stops_thread es sound n few) (stops_done es sound n) x y in absurd (omega (arith, z.left, z.right.0))
   one (refusal.Thread p) (refusal.Missing q) x y =
-      let z = together es sound ts p q Far (Says answer.Missing) (stops_thread es sound n few) (stops_missing es sound n) x y in absurd (omega (arith, z.left, z.right.0))
+      let z = together es sound ts p q Far (Says (Err because.Missing)) (stops_thread es sound n few) (stops_missing es sound n) x y in absurd (omega (arith, z.left, z.right.0))
   one (refusal.Thread p) (refusal.Blocked q) x y =
-      let z = together es sound ts p q Far (Says answer.Blocked) (stops_thread es sound n few) (stops_blocked es sound n) x y in absurd (omega (arith, z.left, z.right.0))
+      let z = together es sound ts p q Far (Says (Err because.Blocked)) (stops_thread es sound n few) (stops_blocked es sound n) x y in absurd (omega (arith, z.left, z.right.0))
   one (refusal.Done p) (refusal.Thread q) x y =
-      let z = together es sound ts p q (Says answer.Done) Far (stops_done es sound n) (stops_thread es sound n few) x y in absurd (omega (arith, z.left.0, z.right))
+      let z = together es sound ts p q (Says (Err because.Done)) Far (stops_done es sound n) (stops_thread es sound n few) x y in absurd (omega (arith, z.left.0, z.right))
   one (refusal.Missing p) (refusal.Thread q) x y =
-      let z = together es sound ts p q (Says answer.Missing) Far (stops_missing es sound n) (stops_thread es sound n few) x y in absurd (omega (arith, z.left.0, z.right))
+      let z = together es sound ts p q (Says (Err because.Missing)) Far (stops_missing es sound n) (stops_thread es sound n few) x y in absurd (omega (arith, z.left.0, z.right))
   one (refusal.Blocked p) (refusal.Thread q) x y =
-      let z = together es sound ts p q (Says answer.Blocked) Far (stops_blocked es sound n) (stops_thread es sound n few) x y in absurd (omega (arith, z.left.0, z.right))
+      let z = together es sound ts p q (Says (Err because.Blocked)) Far (stops_blocked es sound n) (stops_thread es sound n few) x y in absurd (omega (arith, z.left.0, z.right))
   one (refusal.Done p) (refusal.Done q) x y =
-      ap refusal.Done (together es sound ts p q (Says answer.Done) (Says answer.Done) (stops_done es sound n) (stops_done es sound n) x y).same
+      ap refusal.Done (together es sound ts p q (Says (Err because.Done)) (Says (Err because.Done)) (stops_done es sound n) (stops_done es sound n) x y).same
   one (refusal.Missing p) (refusal.Missing q) x y =
-      ap refusal.Missing (together es sound ts p q (Says answer.Missing) (Says answer.Missing) (stops_missing es sound n) (stops_missing es sound n) x y).same
+      ap refusal.Missing (together es sound ts p q (Says (Err because.Missing)) (Says (Err because.Missing)) (stops_missing es sound n) (stops_missing es sound n) x y).same
   one (refusal.Blocked p) (refusal.Blocked q) x y =
-      ap refusal.Blocked (together es sound ts p q (Says answer.Blocked) (Says answer.Blocked) (stops_blocked es sound n) (stops_blocked es sound n) x y).same
+      ap refusal.Blocked (together es sound ts p q (Says (Err because.Blocked)) (Says (Err because.Blocked)) (stops_blocked es sound n) (stops_blocked es sound n) x y).same
   one (refusal.Done p) (refusal.Missing q) x y =
-      let z = together es sound ts p q (Says answer.Done) (Says answer.Missing) (stops_done es sound n) (stops_missing es sound n) x y in
-      let w = one_answer es sound z.cut z.thread answer.Done answer.Missing z.left.1 z.right.1 in
+      let z = together es sound ts p q (Says (Err because.Done)) (Says (Err because.Missing)) (stops_done es sound n) (stops_missing es sound n) x y in
+      let w = one_answer es sound z.cut z.thread (Err because.Done) (Err because.Missing) z.left.1 z.right.1 in
       cc
   one (refusal.Done p) (refusal.Blocked q) x y =
-      let z = together es sound ts p q (Says answer.Done) (Says answer.Blocked) (stops_done es sound n) (stops_blocked es sound n) x y in
-      let w = one_answer es sound z.cut z.thread answer.Done answer.Blocked z.left.1 z.right.1 in
+      let z = together es sound ts p q (Says (Err because.Done)) (Says (Err because.Blocked)) (stops_done es sound n) (stops_blocked es sound n) x y in
+      let w = one_answer es sound z.cut z.thread (Err because.Done) (Err because.Blocked) z.left.1 z.right.1 in
       cc
   one (refusal.Missing p) (refusal.Done q) x y =
-      let z = together es sound ts p q (Says answer.Missing) (Says answer.Done) (stops_missing es sound n) (stops_done es sound n) x y in
-      let w = one_answer es sound z.cut z.thread answer.Missing answer.Done z.left.1 z.right.1 in
+      let z = together es sound ts p q (Says (Err because.Missing)) (Says (Err because.Done)) (stops_missing es sound n) (stops_done es sound n) x y in
+      let w = one_answer es sound z.cut z.thread (Err because.Missing) (Err because.Done) z.left.1 z.right.1 in
       cc
   one (refusal.Missing p) (refusal.Blocked q) x y =
-      let z = together es sound ts p q (Says answer.Missing) (Says answer.Blocked) (stops_missing es sound n) (stops_blocked es sound n) x y in
-      let w = one_answer es sound z.cut z.thread answer.Missing answer.Blocked z.left.1 z.right.1 in
+      let z = together es sound ts p q (Says (Err because.Missing)) (Says (Err because.Blocked)) (stops_missing es sound n) (stops_blocked es sound n) x y in
+      let w = one_answer es sound z.cut z.thread (Err because.Missing) (Err because.Blocked) z.left.1 z.right.1 in
       cc
   one (refusal.Blocked p) (refusal.Done q) x y =
-      let z = together es sound ts p q (Says answer.Blocked) (Says answer.Done) (stops_blocked es sound n) (stops_done es sound n) x y in
-      let w = one_answer es sound z.cut z.thread answer.Blocked answer.Done z.left.1 z.right.1 in
+      let z = together es sound ts p q (Says (Err because.Blocked)) (Says (Err because.Done)) (stops_blocked es sound n) (stops_done es sound n) x y in
+      let w = one_answer es sound z.cut z.thread (Err because.Blocked) (Err because.Done) z.left.1 z.right.1 in
       cc
   one (refusal.Blocked p) (refusal.Missing q) x y =
-      let z = together es sound ts p q (Says answer.Blocked) (Says answer.Missing) (stops_blocked es sound n) (stops_missing es sound n) x y in
-      let w = one_answer es sound z.cut z.thread answer.Blocked answer.Missing z.left.1 z.right.1 in
+      let z = together es sound ts p q (Says (Err because.Blocked)) (Says (Err because.Missing)) (stops_blocked es sound n) (stops_missing es sound n) x y in
+      let w = one_answer es sound z.cut z.thread (Err because.Blocked) (Err because.Missing) z.left.1 z.right.1 in
       cc
 
   module _ (m : Meaning) where

@@ -8,7 +8,7 @@ use Rattle.order.specs.Cuts.{Cut, Reach}
 use Rattle.order.specs.Sound.{Sound}
 use Rattle.monitor.specs.declared.runs.Verdict.{Verdict}
 use Rattle.monitor.specs.Meaning.{Meaning, ran, Violates}
-use Rattle.follow.specs.declared.answer.Follow.TheVariants as answer
+use Rattle.follow.specs.declared.no_next.NoNext.TheVariants as because
 use Rattle.follow.specs.Balance.{ThreadsBelow}
 use Rattle.follow.specs.Answers.{Answers}
 use Rattle.replay.specs.declared.refusal.ReplayRefusal.{ReplayRefusal}
@@ -35,9 +35,9 @@ abbrev pub Refused : List Event → ℕ → List ℕ → ReplayRefusal → Type 
 Refused es n ts Void = ⊥
 Refused es n ts Length = length ts ≡ length es → ⊥
 Refused es n ts (Thread p) = RefusedAt es ts p (λ t c. n ≤ t)
-Refused es n ts (Done p) = RefusedAt es ts p (λ t c. (t < n) × Answers es c t answer.Done)
-Refused es n ts (Missing p) = RefusedAt es ts p (λ t c. (t < n) × Answers es c t answer.Missing)
-Refused es n ts (Blocked p) = RefusedAt es ts p (λ t c. (t < n) × Answers es c t answer.Blocked)
+Refused es n ts (Done p) = RefusedAt es ts p (λ t c. (t < n) × Answers es c t (Err because.Done))
+Refused es n ts (Missing p) = RefusedAt es ts p (λ t c. (t < n) × Answers es c t (Err because.Missing))
+Refused es n ts (Blocked p) = RefusedAt es ts p (λ t c. (t < n) × Answers es c t (Err because.Blocked))
 
 -- the list ts is that of a consistent run, and the verdict is the monitor's on that run
 pub record Replayed (m : Meaning) (es : List Event) (ts : List ℕ) (v : Verdict) : Type 0 where

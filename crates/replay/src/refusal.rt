@@ -1,6 +1,8 @@
 // Why a list of thread numbers is not replayed, and the numbers by which users know the reasons.
 ghost use Rattle.std.specs.Prelude.{◌≡◌};
-ghost use Rattle.replay.specs.Refusals.{replay_number, replay_position};
+ghost use Rattle.replay.specs.Refusals.{replay_number, replay_position, refusal_at};
+
+use follow::NoNext;
 
 // Each but the first two holds the position, from 1, of the thread number that is refused.
 #[derive(Clone, Copy, Debug, PartialEq, Eq)]
@@ -20,6 +22,17 @@ pub enum ReplayRefusal {
 }
 
 impl ReplayRefusal {
+    // Why the thread number at this position is refused, where no event of its thread comes next.
+    pub fn of(why: NoNext, position: usize) -> ReplayRefusal
+        ensures { result ≡ refusal_at position why }
+    {
+        match why {
+            NoNext::Done => ReplayRefusal::Done(position),
+            NoNext::Missing => ReplayRefusal::Missing(position),
+            NoNext::Blocked => ReplayRefusal::Blocked(position),
+        }
+    }
+
     pub fn number(self) -> u8
         ensures { result ≡ replay_number self }
     {
@@ -38,12 +51,11 @@ impl ReplayRefusal {
         ensures { result ≡ replay_position self }
     {
         match self {
-            ReplayRefusal::Void => 0,
-            ReplayRefusal::Length => 0,
-            ReplayRefusal::Thread(position) => position,
-            ReplayRefusal::Done(position) => position,
-            ReplayRefusal::Missing(position) => position,
-            ReplayRefusal::Blocked(position) => position,
+            ReplayRefusal::Void | ReplayRefusal::Length => 0,
+            ReplayRefusal::Thread(position)
+            | ReplayRefusal::Done(position)
+            | ReplayRefusal::Missing(position)
+            | ReplayRefusal::Blocked(position) => position,
         }
     }
 }

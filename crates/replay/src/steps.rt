@@ -6,7 +6,7 @@ ghost use Rattle.follow.specs.Made.{MadeOf};
 ghost use Rattle.replay.specs.Outcome.{Outcome};
 
 use crate::refusal::ReplayRefusal;
-use follow::{Follow, Tables};
+use follow::Tables;
 use monitor::{Monitor, Verdict};
 
 // Takes the threads' next events one by one, and steps the monitor through them.
@@ -23,20 +23,15 @@ pub fn replay<M: Monitor>(
     }
     let mut cut = [0u8; 8];
     let mut code = monitor.start();
-    for k in 0..threads.len() {
-        let thread = threads[k];
+    for (k, &thread) in threads.iter().enumerate() {
         if thread >= count {
             return Err(ReplayRefusal::Thread(k + 1));
         }
-        match tables.next(cut, thread) {
-            Follow::Next(e) => {
-                code = monitor.step(code, e.action());
-                cut[thread as usize] = e.place;
-            }
-            Follow::Done => return Err(ReplayRefusal::Done(k + 1)),
-            Follow::Missing => return Err(ReplayRefusal::Missing(k + 1)),
-            Follow::Blocked => return Err(ReplayRefusal::Blocked(k + 1)),
-        }
+        let event = tables
+            .next(cut, thread)
+            .map_err(|why| ReplayRefusal::of(why, k + 1))?;
+        code = monitor.step(code, event.action());
+        cut[thread as usize] = event.place;
     }
     let violated = monitor.bad(code);
     Ok(Verdict { code, violated })

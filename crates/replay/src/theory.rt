@@ -2,8 +2,6 @@
 ghost use Rattle.replay.specs.Outcome.{OneOutcome};
 
 // At most one outcome is right: one verdict, or one first refusal.
-pub fn one_outcome() -> u8
+pub fn one_outcome()
     ensures { OneOutcome }
-{
-    0
-}
+{}

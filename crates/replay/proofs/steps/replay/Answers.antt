@@ -1,6 +1,5 @@
-use Rattle.std.proofs.Common.{◌≡◌, ℕ, suc, ◌+◌, ◌<◌, ◌≤◌, List, [], ◌∷◌, ◌++◌, length, get_or, take, set, sym, refl, ap, ◌∙◌, subst, ap₂, inl, inr, arith, take_all}
+use Rattle.std.proofs.Common.{rules, ◌≡◌, ℕ, suc, ◌+◌, ◌<◌, ◌≤◌, List, Ok, Err, [], ◌∷◌, ◌++◌, length, get_or, take, set, sym, refl, ap, ◌∙◌, subst, ap₂, arith, take_all}
 use Rattle.std.proofs.lemmas.List.{length-set, take_more}
-use Rattle.std.proofs.lemmas.Bool.{cases_lt}
 use Rattle.std.proofs.lemmas.Bool.Decides.{Decides-at}
 use Rattle.events.specs.declared.event.Action.{Action}
 use Rattle.events.specs.declared.event.Event.{Event}
@@ -13,14 +12,15 @@ use Rattle.order.specs.Reached.{cut_of}
 use Rattle.monitor.specs.Meaning.{Meaning, ran}
 use Rattle.monitor.proofs.Ends.{end_tells}
 use Rattle.follow.specs.declared.tables.Tables.{Tables}
-use Rattle.follow.specs.declared.answer.Follow.{Follow}
-use Rattle.follow.specs.declared.answer.Follow.TheVariants as answer
+use Rattle.follow.specs.declared.no_next.NoNext.{NoNext}
+use Rattle.follow.specs.declared.no_next.NoNext.TheVariants as because
 use Rattle.follow.specs.Balance.{ThreadsBelow}
 use Rattle.follow.specs.Answers.{Answers}
 use Rattle.follow.specs.Made.{MadeOf}
 use Rattle.replay.specs.declared.refusal.ReplayRefusal.{ReplayRefusal}
 use Rattle.replay.specs.declared.refusal.ReplayRefusal.TheVariants as refusal
-use Rattle.replay.specs.Outcome.{actions_of, RefusedAt, Refused}
+use Rattle.replay.specs.Refusals.{refusal_at}
+use Rattle.replay.specs.Outcome.{actions_of, RefusedAt, Refused, Outcome}
 use Rattle.replay.proofs.Along.{cut_start, cut-more, ran_more, threads_more, length_threads, all_run, no_run}
 use Rattle.replay.proofs.steps.replay.Goals as goal
 
@@ -28,14 +28,6 @@ use Rattle.replay.proofs.steps.replay.Goals as goal
 refuse : (es : List Event) (v : Tables) → MadeOf es v → (n : ℕ) → ThreadsBelow es n → (ts : List ℕ) (why : ReplayRefusal) → Refused es n ts why
     → Refused es n ts why × (RunOf es ts → ⊥)
 refuse es v made n few ts why h = (h, no_run es made.sound n few ts why h)
-
--- a thread with an event is one of eight
-below_eight : (t : ℕ) (e : Event) → (8 ≤ t → ◌≡◌ {A = Follow} (answer.Next e) answer.Done) → t < 8
-below_eight t e h =
-    elim (cases_lt t 8) [
-      | inl l ↦ l
-      | inr l ↦ absurd (let q = h l in let z : ◌≡◌ {A = ℕ} 0 1 = cc in omega arith)
-    ]
 
 stepped : (m : Meaning) (code new : ℕ) (a : Action) (e : Event) → new ≡ m.step code a → a ≡ action_of e → new ≡ m.step code (action_of e)
 stepped m code new a e h q = h ∙ ap (m.step code) q
@@ -56,7 +48,7 @@ module _ (m : Meaning) (es : List Event) (v : Tables) (made : MadeOf es v) (ts c
   )
 
   -- one more
-  on : (e : Event) → Answers es (cut_of cut) (get_or ts k 0) (answer.Next e) → get_or ts k 0 < length cut → (new : ℕ) → new ≡ m.step code (action_of e)
+  on : (e : Event) → Answers es (cut_of cut) (get_or ts k 0) (Ok e) → get_or ts k 0 < length cut → (new : ℕ) → new ≡ m.step code (action_of e)
       → SoFar m es ts (set cut (get_or ts k 0) e.place) (k + 1) new
   on e a small new is =
       let t : ℕ = get_or ts k 0 in
@@ -79,47 +71,45 @@ loop-k-init g c = (λ es made. ([], subst (Reach es []) (sym cut_start) start, r
 
 pub returns-then-thread-count : goal.returns-then-thread-count
 returns-then-thread-count g c = λ es made few.
-    refuse es c.args.tables.now made c.args.count few c.args.threads.now (refusal.Thread (c.loop-k.k + 1))
-    (at (g.M.Monitor.meaning c.args.monitor.now) es c.args.tables.now made c.args.threads.now c.loop-k.cut c.loop-k.k c.loop-k.code
+    refuse es c.args.tables.now made c.args.count few c.args.threads.now (refusal.Thread (c.loop-k.k-counter + 1))
+    (at (g.M.Monitor.meaning c.args.monitor.now) es c.args.tables.now made c.args.threads.now c.loop-k.cut c.loop-k.k-counter c.loop-k.code
     (c.if-threads-total.false ∙ c.total.ensures) c.loop-k-test.true (c.loop-k.invariant.0 es made) (λ t d. c.args.count ≤ t) c.if-thread-count.true)
 
-pub returns-in-Done : goal.returns-in-Done
-returns-in-Done g c = λ es made few.
-    let far = c.loop-k.invariant.0 es made in
-    refuse es c.args.tables.now made c.args.count few c.args.threads.now (refusal.Done (c.loop-k.k + 1))
-    (at (g.M.Monitor.meaning c.args.monitor.now) es c.args.tables.now made c.args.threads.now c.loop-k.cut c.loop-k.k c.loop-k.code
-    (c.if-threads-total.false ∙ c.total.ensures) c.loop-k-test.true far (λ t d. (t < c.args.count) × Answers es d t answer.Done)
-    (c.if-thread-count.false, c.in-Done.ensures.answers es made (far.0, far.1)))
+-- where no event of the thread comes next
+refused_at : (es : List Event) (n : ℕ) (ts : List ℕ) (p : ℕ) (why : NoNext) → RefusedAt es ts p (λ t c. (t < n) × Answers es c t (Err why)) → Refused es n ts (refusal_at p why)
+refused_at es n ts p because.Done h = h
+refused_at es n ts p because.Missing h = h
+refused_at es n ts p because.Blocked h = h
 
-pub returns-in-Missing : goal.returns-in-Missing
-returns-in-Missing g c = λ es made few.
+pub returns-in_err-event : goal.returns-in_err-event
+returns-in_err-event g c = λ es made few.
+    let told : (why : NoNext) × (c.next.result ≡ Err why) × (c.from_residual.result ≡ Err (refusal_at (c.loop-k.k-counter + 1) why)) = search rules in
     let far = c.loop-k.invariant.0 es made in
-    refuse es c.args.tables.now made c.args.count few c.args.threads.now (refusal.Missing (c.loop-k.k + 1))
-    (at (g.M.Monitor.meaning c.args.monitor.now) es c.args.tables.now made c.args.threads.now c.loop-k.cut c.loop-k.k c.loop-k.code
-    (c.if-threads-total.false ∙ c.total.ensures) c.loop-k-test.true far (λ t d. (t < c.args.count) × Answers es d t answer.Missing)
-    (c.if-thread-count.false, c.in-Missing.ensures.answers es made (far.0, far.1)))
-
-pub returns-in-Blocked : goal.returns-in-Blocked
-returns-in-Blocked g c = λ es made few.
-    let far = c.loop-k.invariant.0 es made in
-    refuse es c.args.tables.now made c.args.count few c.args.threads.now (refusal.Blocked (c.loop-k.k + 1))
-    (at (g.M.Monitor.meaning c.args.monitor.now) es c.args.tables.now made c.args.threads.now c.loop-k.cut c.loop-k.k c.loop-k.code
-    (c.if-threads-total.false ∙ c.total.ensures) c.loop-k-test.true far (λ t d. (t < c.args.count) × Answers es d t answer.Blocked)
-    (c.if-thread-count.false, c.in-Blocked.ensures.answers es made (far.0, far.1)))
+    let ts : List ℕ = c.args.threads.now in
+    let stops : Answers es (cut_of c.loop-k.cut) (get_or ts c.loop-k.k-counter 0) (Err told.0)
+    = subst (Answers es (cut_of c.loop-k.cut) (get_or ts c.loop-k.k-counter 0)) told.1 (c.next.ensures.answers es made (far.0, far.1)) in
+    subst (Outcome (g.M.Monitor.meaning c.args.monitor.now) es c.args.count ts) (sym told.2) (refuse es c.args.tables.now made c.args.count few ts (refusal_at (c.loop-k.k-counter + 1) told.0)
+    (refused_at es c.args.count ts (c.loop-k.k-counter + 1) told.0
+    (at (g.M.Monitor.meaning c.args.monitor.now) es c.args.tables.now made ts c.loop-k.cut c.loop-k.k-counter c.loop-k.code
+    (c.if-threads-total.false ∙ c.total.ensures) c.loop-k-test.true far (λ t d. (t < c.args.count) × Answers es d t (Err told.0))
+    (c.if-thread-count.false, stops))))
 
 pub loop-k-preserved : goal.loop-k-preserved
 loop-k-preserved g c =
-    let t : ℕ = get_or c.args.threads.now c.loop-k.k 0 in
+    let t : ℕ = get_or c.args.threads.now c.loop-k.k-counter 0 in
     let m : Meaning = g.M.Monitor.meaning c.args.monitor.now in
-    let few : t < 8 = below_eight t c.in-Next.e c.in-Next.ensures.beyond in
+    let event : Event = c.in_ok-event.event in
+    let told : c.next.result ≡ Ok event = search rules in
+    let few : t < 8 = (c.next.ensures.more event told).0 in
     let small : t < length c.loop-k.cut = omega (arith, c.loop-k.invariant.1) in (
       λ es made.
           let far = c.loop-k.invariant.0 es made in
-          on m es c.args.tables.now made c.args.threads.now c.loop-k.cut c.loop-k.k c.loop-k.code
+          let next : Answers es (cut_of c.loop-k.cut) t (Ok event) = subst (Answers es (cut_of c.loop-k.cut) t) told (c.next.ensures.answers es made (far.0, far.1)) in
+          on m es c.args.tables.now made c.args.threads.now c.loop-k.cut c.loop-k.k-counter c.loop-k.code
           (c.if-threads-total.false ∙ c.total.ensures) c.loop-k-test.true far
-          c.in-Next.e (c.in-Next.ensures.answers es made (far.0, far.1)) small c.step-code.result
-          (stepped m c.loop-k.code c.step-code.result c.action.result c.in-Next.e c.step-code.ensures c.action.ensures),
-      length-set c.loop-k.cut t c.in-Next.e.place ∙ c.loop-k.invariant.1,
+          event next small c.step-code.result
+          (stepped m c.loop-k.code c.step-code.result c.action.result event c.step-code.ensures c.action.ensures),
+      length-set c.loop-k.cut t event.place ∙ c.loop-k.invariant.1,
     )
 
 pub returns : goal.returns

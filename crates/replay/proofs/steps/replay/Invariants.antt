@@ -11,5 +11,5 @@ use Rattle.replay.proofs.steps.replay.Given as goal
 abbrev pub invariant-loop-k : goal.invariant-loop-k
 invariant-loop-k g l =
     ((es : List Event) → MadeOf es l.tables
-    → (r : List ℕ) × Reach es r (cut_of l.cut) × (thread_list es r ≡ take l.k l.threads) × (l.code ≡ ran (g.M.Monitor.meaning l.monitor) (actions_of es r)))
+    → (r : List ℕ) × Reach es r (cut_of l.cut) × (thread_list es r ≡ take l.k-counter l.threads) × (l.code ≡ ran (g.M.Monitor.meaning l.monitor) (actions_of es r)))
     × (length l.cut ≡ 8)

@@ -1,11 +1,11 @@
-use Rattle.std.proofs.Common.{◌≡◌, ℕ, suc, ◌+◌, ◌<◌, ◌≤◌, Bool, true, false, ◌⊎◌, List, get_or, refl, ap, ◌∙◌, subst, arith}
+use Rattle.std.proofs.Common.{◌≡◌, ℕ, suc, ◌+◌, ◌<◌, ◌≤◌, Bool, true, false, ◌⊎◌, List, get_or, Ok, Err, refl, ap, ◌∙◌, subst, arith}
 use Rattle.events.specs.declared.event.Event.{Event}
 use Rattle.order.specs.Trace.{blank}
 use Rattle.order.specs.Waiting.{HasNext, Missing}
 use Rattle.order.specs.Reached.{cut_of}
 use Rattle.std.proofs.lemmas.Bool.Decides.{not_from_Decides}
 use Rattle.follow.specs.declared.tables.Tables.{Tables}
-use Rattle.follow.specs.declared.answer.Follow.TheVariants as answer
+use Rattle.follow.specs.declared.no_next.NoNext.TheVariants as because
 use Rattle.follow.specs.Balance.{Reached}
 use Rattle.follow.specs.Answers.{Answers}
 use Rattle.follow.specs.Looking.{BlockedBy}
@@ -41,7 +41,7 @@ module _ (es : List Event) (v : Tables) (made : MadeOf es v) (cut : List ℕ) (r
   next : (i : ℕ) × HasNext es (cut_of cut) t i
   next = next_of es v made cut t few more
 
-  missing : (Has at → ⊥) → Answers es (cut_of cut) t answer.Missing
+  missing : (Has at → ⊥) → Answers es (cut_of cut) t (Err because.Missing)
   missing out = (next.0, next.1, one_missing es v made cut reached t next.0 next.1 (subst (λ z. Has z → ⊥) (at_next t (get_or cut t 0) at is) out))
 
   full : Has at → Missing es (cut_of cut) next.0 → ⊥
@@ -50,10 +50,10 @@ module _ (es : List Event) (v : Tables) (made : MadeOf es v) (cut : List ℕ) (r
   event : get_or v.events at blank ≡ get_or es next.0 blank
   event = ap (λ z. get_or v.events z blank) (at_next t (get_or cut t 0) at is) ∙ event_here es v made cut reached t next.0 next.1
 
-  blocked : Has at → (r : Bool) → BlockedBy v cut (get_or v.events at blank) r → r ≡ true → Answers es (cut_of cut) t answer.Blocked
+  blocked : Has at → (r : Bool) → BlockedBy v cut (get_or v.events at blank) r → r ≡ true → Answers es (cut_of cut) t (Err because.Blocked)
   blocked has r h q = (next.0, next.1, full has, is_blocked es v made cut reached t next.0 next.1 (full has) _ event r h q)
 
-  follows_next : Has at → (r : Bool) → BlockedBy v cut (get_or v.events at blank) r → r ≡ false → Answers es (cut_of cut) t (answer.Next (get_or v.events at blank))
+  follows_next : Has at → (r : Bool) → BlockedBy v cut (get_or v.events at blank) r → r ≡ false → Answers es (cut_of cut) t (Ok (get_or v.events at blank))
   follows_next has r h q = (
     next.0,
     follows es v made cut reached t next.0 next.1 (full has) (is_free es v made cut reached t next.0 next.1 (full has) _ event r h q),

@@ -1,10 +1,6 @@
-// What comes next of a thread after a cut.
-use events::Event;
-
+// Why no event of a thread comes next.
 #[derive(Clone, Copy, Debug, PartialEq, Eq)]
-pub enum Follow {
-    // the thread's next event, which may follow
-    Next(Event),
+pub enum NoNext {
     // the thread has no event left
     Done,
     // an event before the next one is missing
