@@ -1,12 +1,12 @@
 -- The tests of a step decide its rule.
 use Rattle.std.proofs.Common.{◌≡◌, ℕ, ◌<◌, ◌≤◌, Bool, true, false, cond, ◌&&◌, eqb, List, Decides, sym, ◌∙◌, inl, inr}
+use Rattle.std.specs.List.{list_any}
 use Rattle.std.proofs.lemmas.Bool.{cases_eq, cases_Bool, eq-eqb, ne_eqb, eqb-true, and_parts, and_from, cond-true, cond-false}
 use Rattle.std.proofs.lemmas.Bool.Decides.{Decides-and, Decides-at}
 use Rattle.codes.specs.Codes.{bit_of, some}
 use Rattle.codes.proofs.Codes.{bit_code, bit_above, some_decides}
 use Rattle.events.specs.declared.event.Action.{Action}
 use Rattle.automaton.specs.declared.arc.Arc.{Arc}
-use Rattle.automaton.specs.Arcs.{any}
 use Rattle.automaton.specs.Moves.{leaves, goes, stepped}
 use Rattle.automaton.specs.Rule.{Moves, rests, along, stays, Reaches}
 use Rattle.automaton.proofs.Lists.{any_sound, any_complete, any_none}
@@ -21,8 +21,8 @@ module _ (bad : ℕ) (arcs : List Arc) (a : Action) (p s : ℕ) where
       elim (cases_eq p bad) [
         | inl same ↦ rests same (eqb-true s p (sym (cond-true _ _ _ (eq-eqb p bad same)) ∙ h))
         | inr other ↦
-            let rest : cond (any (leaves a p) arcs) (any to arcs) (eqb s p) ≡ true = sym (cond-false _ _ _ (ne_eqb p bad other)) ∙ h in
-            elim (cases_Bool (any (leaves a p) arcs)) [
+            let rest : cond (list_any (leaves a p) arcs) (list_any to arcs) (eqb s p) ≡ true = sym (cond-false _ _ _ (ne_eqb p bad other)) ∙ h in
+            elim (cases_Bool (list_any (leaves a p) arcs)) [
               | inl some-match ↦
                   let found = any_sound to arcs (sym (cond-true _ _ _ some-match) ∙ rest) in
                   let parts = and_parts _ _ found.2 in
@@ -44,8 +44,8 @@ module _ (bad : ℕ) (arcs : List Arc) (a : Action) (p s : ℕ) where
       ∙ cond-true _ _ _ (any_complete (leaves a p) o leaving)
       ∙ any_complete to o (and_from _ _ leaving (eq-eqb s arc.to e))
   goes_complete (stays other none e) =
-      let none-match : any (leaves a p) arcs ≡ false =
-      elim (cases_Bool (any (leaves a p) arcs)) [
+      let none-match : list_any (leaves a p) arcs ≡ false =
+      elim (cases_Bool (list_any (leaves a p) arcs)) [
         | inl found-one ↦
             let found = any_sound (leaves a p) arcs found-one in
             let own = and_parts _ _ found.2 in

@@ -9,13 +9,11 @@ use Rattle.monitor.specs.Meaning.{ran}
 use Rattle.monitor.proofs.Ends.{end_tells}
 use Rattle.automaton.specs.declared.arc.Arc.{Arc}
 use Rattle.automaton.specs.declared.automaton.Automaton.{Automaton}
-use Rattle.automaton.specs.Made.{states_counted}
 use Rattle.automaton.specs.Moves.{stepped}
 use Rattle.automaton.specs.Rule.{Path, stop, move, CanBe}
 use Rattle.automaton.specs.Meant.{meant}
 use Rattle.automaton.specs.Runs.{CanBeIn, BitsTell, BadTells}
 use Rattle.automaton.proofs.Decided.{decides_reaches}
-use Rattle.automaton.proofs.Making.{count_few}
 
 module _ (n bad : ℕ) (arcs : List Arc) where
   -- a path to a state begins at a state
@@ -53,29 +51,22 @@ module _ (n bad : ℕ) (arcs : List Arc) where
   )
 
 module _ (m : Automaton) (actions : List Action) where
-  few : states_counted m.states ≤ 64
-  few = omega (arith, count_few m.states)
+  few : m.states ≤ 64
+  few = omega (arith, m.few)
 
   pub bits_tell : BitsTell m actions
   bits_tell s h =
       Decides-like _ (λ path. (h, path)) (λ both. both.1)
-      (decides_can_be (states_counted m.states) m.bad m.arcs.now m.start actions s few h)
+      (decides_can_be m.states m.bad m.arcs.now m.start actions s few h)
 
   pub bad_tells : BadTells m actions
   bad_tells = (
-    λ v. let both = and_parts (ltb m.bad (states_counted m.states)) (bit_of (ran (meant m) actions) m.bad) ((end_tells (meant m) actions).1 v) in
+    λ v. let both = and_parts (ltb m.bad m.states) (bit_of (ran (meant m) actions) m.bad) ((end_tells (meant m) actions).1 v) in
         (bits_tell m.bad (ltb-true _ _ both.0)).0 both.1,
     λ b. (end_tells (meant m) actions).0 (and_from _ _ (lt-ltb _ _ b.0) ((bits_tell m.bad b.0).1 b)),
   )
 
-  -- what a test of the bound and a bit answer
-  pub answers : (state count code : ℕ) (r : Bool) → count ≡ states_counted m.states → code ≡ ran (meant m) actions
-      → state < count → r ≡ bit_of code state → Decides r (CanBeIn m actions state)
-  answers state count code r counted ends h is =
-      Decides-at _ _ (is ∙ ap (λ x. bit_of x state) ends) (bits_tell state (subst (λ n. state < n) counted h))
-
-  pub answers_beyond : (state count : ℕ) → count ≡ states_counted m.states → count ≤ state → Decides (ltb state count) (CanBeIn m actions state)
-  answers_beyond state count counted h = (
-    λ e. absurd (omega (arith, ltb-true state count e)),
-    λ b. let l : state < count = subst (λ n. state < n) (sym counted) b.0 in absurd (omega arith),
-  )
+  -- what a bit of the code at the end answers
+  pub answers : (state code : ℕ) (r : Bool) → code ≡ ran (meant m) actions → state < m.states → r ≡ bit_of code state
+      → Decides r (CanBeIn m actions state)
+  answers state code r ends h is = Decides-at _ _ (is ∙ ap (λ x. bit_of x state) ends) (bits_tell state h)

@@ -1,23 +1,29 @@
 -- Arcs, and which actions match them.
-use Rattle.std.specs.Prelude.{ℕ, Bool, true, false, cond, ◌&&◌, ◌||◌, List, [], ◌∷◌, ℤ, ◌==◌, int_lt}
+use Rattle.std.specs.Prelude.{ℕ, Bool, true, cond, ◌&&◌, List, ◌∷◌, ℤ, ◌==◌, int_lt}
 use Rattle.events.specs.Noting.{eq_z}
 use Rattle.events.specs.declared.event.Action.{Action}
 use Rattle.automaton.specs.declared.arc.Arc.{Arc}
+use Rattle.automaton.specs.declared.comparison.Comparison.{Comparison}
+use Rattle.automaton.specs.declared.comparison.Comparison.TheVariants.{Equal, Less, Greater, Any}
 
--- whether the value compares with the constant as the comparison's number says
+-- the comparison with this number
+abbrev pub comparison_of : ℕ → Comparison
+comparison_of number = cond (number == 0) Equal (cond (number == 1) Less (cond (number == 2) Greater Any))
+
+-- whether the value compares so with the constant
+abbrev pub holds : Comparison → ℤ → ℤ → Bool
+holds Equal value constant = eq_z value constant
+holds Less value constant = int_lt value constant
+holds Greater value constant = int_lt constant value
+holds Any value constant = true
+
+-- whether it compares with the constant as the comparison's number says
 abbrev pub compares : ℕ → ℤ → ℤ → Bool
-compares comparison value constant =
-    cond (comparison == 0) (eq_z value constant)
-    (cond (comparison == 1) (int_lt value constant) (cond (comparison == 2) (int_lt constant value) true))
+compares number value constant = holds (comparison_of number) value constant
 
 abbrev pub matching : Action → Arc → Bool
 matching a arc =
     (arc.kind == a.kind) && (arc.subject == a.subject && compares arc.comparison a.value arc.constant)
-
--- whether any of the list passes
-abbrev pub any : {A : Type 0} → (A → Bool) → List A → Bool
-any p [] = false
-any p (x ∷ xs) = p x || any p xs
 
 -- the arc is one of the list
 pub data Of (arc : Arc) : List Arc → Type 0 where

@@ -1,11 +1,11 @@
--- What is known of a new automaton: it is that of what was given, its state count is the field, and no move leads out of its states.
+-- What is known of a new automaton: it is that of what was given, and no move leads out of its states.
 use Rattle.std.specs.Prelude.{◌≡◌, ℕ, ◌^◌, ◌<◌, List, Some, None, Ok, Err, Result}
 use Rattle.codes.specs.Codes.{bit_of}
 use Rattle.events.specs.declared.event.Action.{Action}
 use Rattle.automaton.specs.declared.arc.Arc.{Arc}
 use Rattle.automaton.specs.declared.automaton.Automaton.{Automaton}
 use Rattle.automaton.specs.declared.fault.AutomatonFault.{AutomatonFault}
-use Rattle.automaton.specs.Made.{states_counted, refused}
+use Rattle.automaton.specs.Made.{refused}
 use Rattle.automaton.specs.Rule.{Moves}
 use Rattle.automaton.specs.Meant.{meant}
 
@@ -16,7 +16,6 @@ NewTells states start bad arcs (Ok m) =
 NewTells states start bad arcs (Err why) = refused states start bad arcs ≡ Some why
 
 pub record Exact (m : Automaton) : Type 0 where
-  pub counted : states_counted m.states ≡ m.states
   pub closed : (a : Action) (p s : ℕ) → p < m.states → Moves m.bad m.arcs.now a p s → s < m.states
   -- the start code has the start state's bit alone
   pub starting : (meant m).start ≡ 2 ^ m.start

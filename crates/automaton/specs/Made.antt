@@ -1,14 +1,10 @@
 -- Which automata are made, and why one is refused.
-use Rattle.std.specs.Prelude.{ℕ, Bool, cond, ◌||◌, List, [], ◌∷◌, Option, ◌==◌, nat_le, nat_lt}
+use Rattle.std.specs.Prelude.{ℕ, Bool, ◌||◌, List, [], ◌∷◌, Option, ◌==◌, nat_le, nat_lt}
+use Rattle.std.specs.List.{list_any}
 use Rattle.events.specs.First.{first_fit}
 use Rattle.automaton.specs.declared.arc.Arc.{Arc}
 use Rattle.automaton.specs.declared.fault.AutomatonFault.{AutomatonFault}
 use Rattle.automaton.specs.declared.fault.AutomatonFault.TheVariants.{States, StartOrBad, Arcs}
-use Rattle.automaton.specs.Arcs.{any}
-
--- How many states an automaton has, from its field. Those that are made have at most 32, and for them this is the field.
-abbrev pub states_counted : ℕ → ℕ
-states_counted states = cond (nat_lt states 32) states 32
 
 -- an arc that no automaton of so many states can have
 abbrev pub outside : ℕ → Arc → Bool
@@ -20,7 +16,7 @@ abbrev pub fault_tests : ℕ → ℕ → ℕ → List Arc → List (Bool × Auto
 fault_tests states start bad arcs =
     (states == 0 || nat_lt 32 states, States)
     ∷ (nat_le states start || nat_le states bad, StartOrBad)
-    ∷ (any (outside states) arcs, Arcs)
+    ∷ (list_any (outside states) arcs, Arcs)
     ∷ []
 
 abbrev pub fault_number : AutomatonFault → ℕ

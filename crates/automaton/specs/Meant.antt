@@ -8,7 +8,6 @@ use Rattle.events.specs.declared.event.Action.{Action}
 use Rattle.monitor.specs.Meaning.{Meaning}
 use Rattle.automaton.specs.declared.arc.Arc.{Arc}
 use Rattle.automaton.specs.declared.automaton.Automaton.{Automaton}
-use Rattle.automaton.specs.Made.{states_counted}
 use Rattle.automaton.specs.Moves.{goes, stepped, is_bad}
 
 -- the bad state stays, so a bad code stays bad
@@ -33,4 +32,4 @@ meant_by n start bad arcs = record {
 }
 
 abbrev pub meant : Automaton → Meaning
-meant a = meant_by (states_counted a.states) a.start a.bad a.arcs.now
+meant a = meant_by a.states a.start a.bad a.arcs.now

@@ -1,9 +1,10 @@
 -- The step of an automaton on codes.
 use Rattle.std.specs.Prelude.{ℕ, Bool, cond, not, ◌&&◌, List, ◌==◌, nat_lt}
+use Rattle.std.specs.List.{list_any}
 use Rattle.codes.specs.Codes.{bit_of, code_of, some}
 use Rattle.events.specs.declared.event.Action.{Action}
 use Rattle.automaton.specs.declared.arc.Arc.{Arc}
-use Rattle.automaton.specs.Arcs.{matching, any}
+use Rattle.automaton.specs.Arcs.{matching}
 
 -- the action matches the arc, which leaves the state p
 abbrev pub leaves : Action → ℕ → Arc → Bool
@@ -17,7 +18,7 @@ leaving bad c a arc = not (arc.from == bad) && (bit_of c arc.from && matching a 
 unfoldable pub goes : ℕ → List Arc → Action → ℕ → ℕ → Bool
 goes bad arcs a p s =
     cond (p == bad) (s == p)
-    (cond (any (leaves a p) arcs) (any (λ arc. leaves a p arc && s == arc.to) arcs) (s == p))
+    (cond (list_any (leaves a p) arcs) (list_any (λ arc. leaves a p arc && s == arc.to) arcs) (s == p))
 
 -- The code after the action, of n states: those that some state of the code moves to. Bits of no state are ignored and cleared.
 unfoldable pub stepped : ℕ → ℕ → List Arc → ℕ → Action → ℕ

@@ -1,6 +1,7 @@
 // An automaton over a lent list of arcs.
-ghost use Rattle.std.specs.Prelude.{◌≡◌};
-ghost use Rattle.automaton.specs.Made.{states_counted};
+ghost use Rattle.std.specs.Prelude.{◌≡◌, ◌<◌, ◌≤◌, false};
+ghost use Rattle.std.specs.List.{list_any};
+ghost use Rattle.automaton.specs.Made.{outside};
 
 use crate::arc::Arc;
 
@@ -10,13 +11,18 @@ pub struct Automaton<'a> {
     pub(crate) start: u8,
     pub(crate) bad: u8,
     pub(crate) arcs: &'a [Arc],
+    pub ghost few: { states ≤ 32 },
+    pub ghost start_within: { start < states },
+    pub ghost bad_within: { bad < states },
+    pub ghost arcs_within: { list_any (outside states) arcs.now ≡ false },
 }
 
 impl<'a> Automaton<'a> {
     // How many states there are: never more than 32.
     pub fn state_count(&self) -> u8
-        ensures { result ≡ states_counted self.now.states }
+        ensures count { result ≡ self.now.states }
+        ensures few { result ≤ 32 }
     {
-        if self.states < 32 { self.states } else { 32 }
+        self.states
     }
 }

@@ -4,6 +4,7 @@
 
 pub mod arc;
 pub mod automaton;
+pub mod comparison;
 pub mod fault;
 pub mod make;
 pub mod moves;
@@ -12,4 +13,5 @@ pub mod watch;
 
 pub use arc::Arc;
 pub use automaton::Automaton;
+pub use comparison::Comparison;
 pub use fault::AutomatonFault;

@@ -1,8 +1,7 @@
 // The step of an automaton, by one pass over its arcs.
 ghost use Rattle.std.specs.Prelude.{◌≡◌, ℕ, ◌%◌, ◌^◌, ◌<◌, ◌&&◌, ◌==◌};
+ghost use Rattle.std.specs.List.{list_any};
 ghost use Rattle.codes.specs.Codes.{bit_of};
-ghost use Rattle.automaton.specs.Arcs.{any};
-ghost use Rattle.automaton.specs.Made.{states_counted};
 ghost use Rattle.automaton.specs.Moves.{leaving, stepped};
 ghost use Rattle.automaton.specs.Runs.{StepTells, OnlyStates};
 
@@ -22,14 +21,13 @@ impl<'a> Automaton<'a> {
     // The code after the action: a state of the code moves to the targets of all its matching arcs, or
     // stays if none match; the bad state stays. Bits of no state are ignored and cleared.
     pub fn next(&self, code: u64, action: Action) -> u64
-        ensures code { result ≡ stepped (states_counted self.now.states) self.now.bad self.now.arcs.now code action }
+        ensures code { result ≡ stepped self.now.states self.now.bad self.now.arcs.now code action }
         ensures rule { StepTells self.now code action result }
         ensures cleared { OnlyStates self.now result }
     {
-        let count = self.state_count();
-        let here = below(code, count);
+        let here = below(code, self.states);
         let turn = turned(self.arcs, self.bad, here, action);
-        below(here ^ turn.left | turn.reached, count)
+        below(here ^ turn.left | turn.reached, self.states)
     }
 }
 
@@ -49,8 +47,8 @@ fn leaves_by(arc: &Arc, bad: u8, code: u64, action: Action) -> bool
 }
 
 fn turned(arcs: &[Arc], bad: u8, code: u64, action: Action) -> Turn
-    ensures left { (s : ℕ) → s < 64 → bit_of result.left s ≡ any (λ arc. leaving bad code action arc && s == arc.from) arcs.now }
-    ensures reached { (s : ℕ) → s < 64 → bit_of result.reached s ≡ any (λ arc. leaving bad code action arc && s == arc.to) arcs.now }
+    ensures left { (s : ℕ) → s < 64 → bit_of result.left s ≡ list_any (λ arc. leaving bad code action arc && s == arc.from) arcs.now }
+    ensures reached { (s : ℕ) → s < 64 → bit_of result.reached s ≡ list_any (λ arc. leaving bad code action arc && s == arc.to) arcs.now }
 {
     let mut left = 0;
     let mut reached = 0;

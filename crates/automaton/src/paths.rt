@@ -15,6 +15,6 @@ impl<'a> Automaton<'a> {
         ensures violates { BadTells self.now actions.now }
     {
         let end = run(self, actions);
-        state < self.state_count() && has(end.code, state)
+        state < self.states && has(end.code, state)
     }
 }

@@ -18,6 +18,6 @@ impl<'a> Monitor for Automaton<'a> {
     }
 
     fn bad(&self, code: u64) -> bool {
-        self.bad < self.state_count() && has(code, self.bad)
+        has(code, self.bad)
     }
 }

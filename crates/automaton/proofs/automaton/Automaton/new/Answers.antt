@@ -1,12 +1,14 @@
-use Rattle.std.proofs.Common.{sym, refl}
-use Rattle.automaton.specs.declared.automaton.Automaton.{Automaton}
-use Rattle.automaton.proofs.Making.{none_fits, exact}
+use Rattle.std.proofs.Common.{sym, ◌∙◌, rules}
+use Rattle.std.proofs.lemmas.Iterator.{YieldsList-from_slice}
+use Rattle.std.proofs.lemmas.Iterator.Search.{any_from_yields_List}
+use Rattle.automaton.specs.Made.{outside}
+use Rattle.automaton.proofs.Making.{exact}
 use Rattle.automaton.proofs.automaton.Automaton.new.Goals as goal
 
-pub returns : goal.returns
-returns c =
-    let made : Automaton = record { states = c.args.states; start = c.args.start; bad = c.args.bad; arcs = c.args.arcs } in
-    let few = sym c.if-not_a_count.ensures in
-    let inside = sym c.if-not_below.ensures in
-    let sound = sym c.if-some_outside.ensures in
-    record { answer = (none_fits made few inside sound, refl, refl, refl, refl); exact = exact made few inside sound }
+pub invariant_of-result-clause-arcs_within : goal.invariant_of-result-clause-arcs_within
+invariant_of-result-clause-arcs_within c =
+    sym (any_from_yields_List (outside c.args.states) _ _ _ c.any.ensures.ran (YieldsList-from_slice c.args.arcs.now cc) (λ x b q k. search rules))
+    ∙ c.if-any.false
+
+pub returns-clause-exact : goal.returns-clause-exact
+returns-clause-exact c = exact _
