@@ -9,6 +9,7 @@ use monitor::run;
 
 impl<'a> Automaton<'a> {
     // Whether some path of moves leads from the start state to this state, action by action.
+    #[tactic(auto, using(crate::proofs::Ways::bits_tell, crate::proofs::Ways::bad_tells))]
     pub fn can_be(&self, actions: &[Action], state: u8) -> bool
         ensures answer { Decides result (CanBeIn self.now actions.now state) }
         ensures bits { BitsTell self.now actions.now }

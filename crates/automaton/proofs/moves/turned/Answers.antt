@@ -1,4 +1,4 @@
-use Rattle.std.proofs.Common.{◌+◌, take, sym, ap, ◌∙◌, subst, take_all}
+use Rattle.std.proofs.Common.{◌+◌, take, sym, ap, ◌∙◌, subst}
 use lib.Bits.{bit_or}
 use Rattle.codes.proofs.Bitwise.{bit_zero}
 use Rattle.automaton.specs.Moves.{leaving}
@@ -31,12 +31,3 @@ loop-arc-preserved c =
                 (marks_no passes (λ arc. arc.to) arcs i _ c.loop-arc.reached at no c.loop-arc.invariant.1),
           )
     ]
-
-pub returns : goal.returns
-returns c =
-    let passes = leaving c.args.bad c.args.code c.args.action in
-    let whole = take_all _ c.args.arcs.now c.loop-arc-test.false in
-    record {
-      left = subst (λ arcs. Marks passes (λ arc. arc.from) arcs c.loop-arc.left) whole c.loop-arc.invariant.0;
-      reached = subst (λ arcs. Marks passes (λ arc. arc.to) arcs c.loop-arc.reached) whole c.loop-arc.invariant.1;
-    }
