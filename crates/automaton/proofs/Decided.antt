@@ -30,7 +30,7 @@ module _ (bad : ℕ) (arcs : List Arc) (a : Action) (p s : ℕ) where
                   along other found.0 found.1 (eqb-true _ _ own.0) own.1 (eqb-true _ _ parts.1)
               | inr none-match ↦
                   stays other
-                  (λ arc o from matches. any_none (leaves a p) none-match o (and_from _ _ (eq-eqb _ _ from) matches))
+                  (λ arc o from matches. any_none (leaves a p) arcs arc none-match o (and_from _ _ (eq-eqb _ _ from) matches))
                   (eqb-true s p (sym (cond-false _ _ _ none-match) ∙ rest))
             ]
       ]
@@ -41,8 +41,8 @@ module _ (bad : ℕ) (arcs : List Arc) (a : Action) (p s : ℕ) where
   goes_complete (along other arc o from matches e) =
       let leaving : leaves a p arc ≡ true = and_from _ _ (eq-eqb _ _ from) matches in
       cond-false _ _ _ (ne_eqb p bad other)
-      ∙ cond-true _ _ _ (any_complete (leaves a p) o leaving)
-      ∙ any_complete to o (and_from _ _ leaving (eq-eqb s arc.to e))
+      ∙ cond-true _ _ _ (any_complete (leaves a p) arcs arc o leaving)
+      ∙ any_complete to arcs arc o (and_from _ _ leaving (eq-eqb s arc.to e))
   goes_complete (stays other none e) =
       let none-match : list_any (leaves a p) arcs ≡ false =
       elim (cases_Bool (list_any (leaves a p) arcs)) [

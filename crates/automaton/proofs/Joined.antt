@@ -2,6 +2,7 @@
 use Rattle.std.proofs.Common.{◌≡◌, ℕ, ◌%◌, ◌^◌, ◌<◌, ◌≤◌, Bool, true, false, ◌&&◌, ◌||◌, eqb, ltb, List, sym, refl, ap, ◌∙◌, subst, inl, inr, arith}
 use lib.Bits.{bit_or, bit_xor}
 use Rattle.std.proofs.lemmas.Nat.{mod_below, pow_pos}
+use Rattle.std.specs.List.{Contains}
 use Rattle.std.proofs.lemmas.Bool.{cases_eq, cases_Bool, eq-eqb, ne_eqb, eqb-true, eqb-false, lt-ltb, ltb-true, and_parts, and_from, or_cases, or_left, or_right, not-true, not_from_false, false≢true, both_ways}
 use Rattle.std.proofs.lemmas.Bool.Decides.{same_from_decides}
 use Rattle.codes.specs.Codes.{bit_of, some}
@@ -9,7 +10,7 @@ use Rattle.codes.proofs.Codes.{code_ext, code_bits}
 use Rattle.codes.proofs.Bitwise.{differs, bit_or_lem, bit_xor_lem, bit_part}
 use Rattle.events.specs.declared.event.Action.{Action}
 use Rattle.automaton.specs.declared.arc.Arc.{Arc}
-use Rattle.automaton.specs.Arcs.{matching, Of}
+use Rattle.automaton.specs.Arcs.{matching}
 use Rattle.automaton.specs.Moves.{leaving, goes, stepped}
 use Rattle.automaton.specs.Rule.{Moves, rests, along, stays, Reaches}
 use Rattle.automaton.proofs.Lists.{any_sound, any_complete}
@@ -52,7 +53,7 @@ module _ (n bad : ℕ) (arcs : List Arc) (c : ℕ) (a : Action) (few : n ≤ 64)
     low : s < 64
     low = omega arith
 
-    left_sound : bit_of left s ≡ true → (arc : Arc) × Of arc arcs × ((leaving bad here a arc ≡ true) × (s ≡ arc.from))
+    left_sound : bit_of left s ≡ true → (arc : Arc) × Contains arcs arc × ((leaving bad here a arc ≡ true) × (s ≡ arc.from))
     left_sound e =
         let found = any_sound (λ arc. leaving bad here a arc && eqb s arc.from) arcs (sym (left_is s low) ∙ e) in
         let both = and_parts _ _ found.2 in
@@ -79,7 +80,7 @@ module _ (n bad : ℕ) (arcs : List Arc) (c : ℕ) (a : Action) (few : n ≤ 64)
                     | inr other ↦
                         stays other
                         (λ arc o from matches. both_ways (bit_of left s) both.1
-                        (left_is s low ∙ any_complete (λ x. leaving bad here a x && eqb s x.from) o
+                        (left_is s low ∙ any_complete (λ x. leaving bad here a x && eqb s x.from) arcs arc o
                         (and_from _ _ (leaving_from arc s from other both.0 matches) (eq-eqb _ _ (sym from)))))
                         refl
                   ],
@@ -103,7 +104,7 @@ module _ (n bad : ℕ) (arcs : List Arc) (c : ℕ) (a : Action) (few : n ≤ 64)
             or_left _ _ (differs_from _ _ (ap (bit_of here) is ∙ state_here p l e)
             (not_left (λ gone. let found = left_sound gone in (leaving_parts found.0 found.2.0).0 (sym found.2.1 ∙ is ∙ same))))
         by p l e (along other arc o from matches is) =
-            or_right _ _ (reached-is s low ∙ any_complete (λ x. leaving bad here a x && eqb s x.to) o
+            or_right _ _ (reached-is s low ∙ any_complete (λ x. leaving bad here a x && eqb s x.to) arcs arc o
             (and_from _ _ (leaving_from arc p from other (state_here p l e) matches) (eq-eqb _ _ is)))
         by p l e (stays other none is) =
             or_left _ _ (differs_from _ _ (ap (bit_of here) is ∙ state_here p l e)

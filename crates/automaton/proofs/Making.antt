@@ -1,5 +1,6 @@
 -- What the tests of a new automaton tell.
 use Rattle.std.proofs.Common.{◌≡◌, ℕ, ◌<◌, ◌&&◌, None, ap, ◌∙◌, inl, inr, arith}
+use Rattle.std.specs.List.{Contains}
 use Rattle.std.proofs.lemmas.Bool.{cases_Bool, lt-ltb, le-ltb, leb-false, or_parts, or_from, ne_eqb, lt-leb, cond-false}
 use Rattle.events.specs.First.{first_fit}
 use Rattle.events.specs.declared.event.Action.{Action}
@@ -7,7 +8,6 @@ use Rattle.codes.specs.Codes.{bit_of}
 use Rattle.codes.proofs.Bitwise.{only_pow}
 use Rattle.automaton.specs.declared.arc.Arc.{Arc}
 use Rattle.automaton.specs.declared.automaton.Automaton.{Automaton}
-use Rattle.automaton.specs.Arcs.{Of}
 use Rattle.automaton.specs.Made.{outside, fault_tests}
 use Rattle.automaton.specs.Rule.{Moves, rests, along, stays}
 use Rattle.automaton.specs.Exact.{Exact}
@@ -21,10 +21,10 @@ none_fits m =
     ∙ cond-false _ _ _ m.arcs_within
 
 module _ (m : Automaton) where
-  to_state : (arc : Arc) → Of arc m.arcs.now → arc.to < m.states
+  to_state : (arc : Arc) → Contains m.arcs.now arc → arc.to < m.states
   to_state arc o =
       elim (cases_Bool (outside m.states arc)) [
-        | inl out ↦ absurd (any_none (outside m.states) m.arcs_within o out)
+        | inl out ↦ absurd (any_none (outside m.states) m.arcs.now arc m.arcs_within o out)
         | inr fits ↦ leb-false _ _ (or_parts _ _ (or_parts _ _ fits).1).0
       ]
 

@@ -1,5 +1,5 @@
 -- Arcs, and which actions match them.
-use Rattle.std.specs.Prelude.{ℕ, Bool, true, cond, ◌&&◌, List, ◌∷◌, ℤ, ◌==◌, int_lt}
+use Rattle.std.specs.Prelude.{ℕ, Bool, true, cond, ◌&&◌, ℤ, ◌==◌, int_lt}
 use Rattle.events.specs.Noting.{eq_z}
 use Rattle.events.specs.declared.event.Action.{Action}
 use Rattle.automaton.specs.declared.arc.Arc.{Arc}
@@ -24,8 +24,3 @@ compares number value constant = holds (comparison_of number) value constant
 abbrev pub matching : Action → Arc → Bool
 matching a arc =
     (arc.kind == a.kind) && (arc.subject == a.subject && compares arc.comparison a.value arc.constant)
-
--- the arc is one of the list
-pub data Of (arc : Arc) : List Arc → Type 0 where
-  first : {arcs : List Arc} → Of arc (arc ∷ arcs)
-  later : {other : Arc} {arcs : List Arc} → Of arc arcs → Of arc (other ∷ arcs)

@@ -1,15 +1,15 @@
 -- The moves of a nondeterministic automaton, and where it can be after a run.
-use Rattle.std.specs.Prelude.{◌≡◌, ℕ, ◌<◌, true, List, [], ◌∷◌, ◌≢◌}
+use Rattle.std.specs.Prelude.{◌≡◌, ℕ, ◌<◌, true, List, [], ◌∷◌, ◌≢◌, Contains}
 use Rattle.codes.specs.Codes.{bit_of}
 use Rattle.events.specs.declared.event.Action.{Action}
 use Rattle.automaton.specs.declared.arc.Arc.{Arc}
-use Rattle.automaton.specs.Arcs.{matching, Of}
+use Rattle.automaton.specs.Arcs.{matching}
 
 -- The action moves the state p to the state s: the bad state stays, any other goes along a matching arc, or stays if no arc of its own matches.
 pub data Moves (bad : ℕ) (arcs : List Arc) (a : Action) (p s : ℕ) : Type 0 where
   rests : p ≡ bad → s ≡ p → Moves bad arcs a p s
-  along : (p ≢ bad) → (arc : Arc) → Of arc arcs → arc.from ≡ p → matching a arc ≡ true → s ≡ arc.to → Moves bad arcs a p s
-  stays : (p ≢ bad) → ((arc : Arc) → Of arc arcs → arc.from ≡ p → matching a arc ≢ true) → s ≡ p → Moves bad arcs a p s
+  along : (p ≢ bad) → (arc : Arc) → Contains arcs arc → arc.from ≡ p → matching a arc ≡ true → s ≡ arc.to → Moves bad arcs a p s
+  stays : (p ≢ bad) → ((arc : Arc) → Contains arcs arc → arc.from ≡ p → matching a arc ≢ true) → s ≡ p → Moves bad arcs a p s
 
 -- one of the n states, whose bit the code has, moves to s
 abbrev pub Reaches : ℕ → ℕ → List Arc → ℕ → Action → ℕ → Type 0
