@@ -13,6 +13,22 @@ eq_z a b = not (int_lt a b) && not (int_lt b a)
 abbrev pub writes : Action → ℕ → Bool
 writes a x = a.kind == 2 && a.subject == x
 
+-- the comparison is true of the value; nothing else is
+abbrev pub met : Node → ℤ → Bool
+met (Eq x c) v = eq_z v c
+met (Lt x c) v = int_lt v c
+met (Gt x c) v = int_lt c v
+met (Mark k) v = false
+met (By t) v = false
+met (Not f) v = false
+met (Before f) v = false
+met (Once f) v = false
+met (Always f) v = false
+met (And f g) v = false
+met (Or f g) v = false
+met (Implies f g) v = false
+met (Since f g) v = false
+
 -- The truth of subformula i after a, from the bits ahead of a and the bits of later subformulas after a. Bit 60 ahead of a says whether a is
 -- not the first event; at the first no bit but those of comparisons counts.
 abbrev pub truth : Node → ℕ → (ℕ → Bool) → (ℕ → Bool) → Action → Bool

@@ -43,10 +43,10 @@ impl RuleFault {
         match self {
             RuleFault::Void => Place { line: 1, column: 1 },
             RuleFault::Text(fault) => fault.place(),
-            RuleFault::TooMany(place) => place,
-            RuleFault::Variable(place) => place,
-            RuleFault::Label(place) => place,
-            RuleFault::Thread(place) => place,
+            RuleFault::TooMany(place)
+            | RuleFault::Variable(place)
+            | RuleFault::Label(place)
+            | RuleFault::Thread(place) => place,
         }
     }
 }

@@ -2,7 +2,7 @@
 ghost use Rattle.std.specs.Prelude.{◌≡◌, ℕ};
 ghost use Rattle.codes.specs.Codes.{bit_of};
 ghost use Rattle.formula.specs.Meant.{starts_of};
-ghost use Rattle.formula.specs.Step.{truth, initial, started, stepped, writes, Turn};
+ghost use Rattle.formula.specs.Step.{met, truth, initial, started, stepped, writes, Turn};
 ghost use Rattle.formula.specs.Table.{Inside};
 
 use crate::formula::Formula;
@@ -22,6 +22,18 @@ fn is_write(action: Action, variable: u8) -> bool
     action.kind == 2 && action.subject == variable
 }
 
+// Whether the subformula is a comparison that is true of the value.
+fn meets(node: Node, value: i32) -> bool
+    ensures { result ≡ met node value }
+{
+    match node {
+        Node::Eq(_, c) => value == c,
+        Node::Lt(_, c) => value < c,
+        Node::Gt(_, c) => value > c,
+        _ => false,
+    }
+}
+
 // Whether subformula i is true after the action. `code` has the truths ahead of it, and `next` those
 // after it of the later subformulas.
 fn holds(node: Node, i: u8, code: u64, next: u64, action: Action) -> bool
@@ -30,18 +42,8 @@ fn holds(node: Node, i: u8, code: u64, next: u64, action: Action) -> bool
     let later = has(code, BEGUN);
     let own = has(code, i);
     match node {
-        Node::Eq(x, c) => if is_write(action, x) {
-            action.value == c
-        } else {
-            own
-        },
-        Node::Lt(x, c) => if is_write(action, x) {
-            action.value < c
-        } else {
-            own
-        },
-        Node::Gt(x, c) => if is_write(action, x) {
-            action.value > c
+        Node::Eq(x, _) | Node::Lt(x, _) | Node::Gt(x, _) => if is_write(action, x) {
+            meets(node, action.value)
         } else {
             own
         },
@@ -64,9 +66,7 @@ fn begins(node: Node, starts: &[i32; 32]) -> bool
     ensures { result ≡ initial starts.now node }
 {
     match node {
-        Node::Eq(x, c) => starts[x as usize] == c,
-        Node::Lt(x, c) => starts[x as usize] < c,
-        Node::Gt(x, c) => starts[x as usize] > c,
+        Node::Eq(x, _) | Node::Lt(x, _) | Node::Gt(x, _) => meets(node, starts[x as usize]),
         _ => false,
     }
 }

@@ -12,9 +12,7 @@ fn is_suited(word: Word, variables: u8) -> bool
     ensures { result ≡ suits variables word }
 {
     match word {
-        Word::Eq(x, _) => x < variables,
-        Word::Lt(x, _) => x < variables,
-        Word::Gt(x, _) => x < variables,
+        Word::Eq(x, _) | Word::Lt(x, _) | Word::Gt(x, _) => x < variables,
         Word::Mark(k) => k < 32,
         Word::By(t) => t < 8,
         _ => true,
@@ -26,9 +24,7 @@ fn refusal(word: Word, place: Place) -> RuleFault
     ensures { result ≡ refused word place }
 {
     match word {
-        Word::Eq(_, _) => RuleFault::Variable(place),
-        Word::Lt(_, _) => RuleFault::Variable(place),
-        Word::Gt(_, _) => RuleFault::Variable(place),
+        Word::Eq(_, _) | Word::Lt(_, _) | Word::Gt(_, _) => RuleFault::Variable(place),
         Word::Mark(_) => RuleFault::Label(place),
         _ => RuleFault::Thread(place),
     }
