@@ -152,18 +152,15 @@ module _ (t : List ℕ) where
       let later = fault_walk pre ss k rest e more st.1 fine.1 bad z in
       (later.0, told.1 (walk ss z) ∙ later.1, later.2)
 
--- the state of the scan ahead of byte i
-pub record Scanned (t : List ℕ) (i : ℕ) (ws : List Word) (at : List ℕ) (len : ℕ) : Type 0 where
+-- the state of the scan ahead of byte i, with the words that are kept
+pub record Scanned (t : List ℕ) (i : ℕ) (ws : List Word) : Type 0 where
   pub pre : List ℕ
   pub split : openings 0 t ≡ pre ++ openings i (drop i t)
-  pub rows : length ws ≡ 61
-  pub places : length at ≡ 61
-  pub room : len ≤ 61
-  pub some : len ≤ length pre
-  pub all : len < 61 → len ≡ length pre
+  pub room : length ws ≤ 61
+  pub some : length ws ≤ length pre
+  pub all : length ws < 61 → length ws ≡ length pre
   pub fine : All (Fine t) pre
-  pub read : (j : ℕ) → j < len → ReadsWord t (get_or pre j 0) (Ok (word_at ws j))
-  pub kept : (j : ℕ) → j < len → get_or at j 0 ≡ get_or pre j 0
+  pub read : (j : ℕ) → j < length ws → ReadsWord t (get_or pre j 0) (Ok (word_at ws j))
 
 all_push : {A : Type 0} (P : A → Type 0) (xs : List A) (x : A) → All P xs → P x → All P (xs ++ x ∷ [])
 all_push P [] x a h = (h, tt)
@@ -174,21 +171,18 @@ all-at P [] j d a h = absurd (omega arith)
 all-at P (x ∷ xs) zero d a h = a.0
 all-at P (x ∷ xs) (suc j) d a h = all-at P xs j d a.1 (omega arith)
 
-module _ (t : List ℕ) (i : ℕ) (ws : List Word) (at : List ℕ) (len : ℕ) (h : i < length t) (s : Scanned t i ws at len) where
-  pub skipped : (get_or t i 0 ≡ 40 → ⊥) → Scanned t (i + 1) ws at len
+module _ (t : List ℕ) (i : ℕ) (ws : List Word) (h : i < length t) (s : Scanned t i ws) where
+  pub skipped : (get_or t i 0 ≡ 40 → ⊥) → Scanned t (i + 1) ws
   skipped other =
       let later = openings (i + 1) (drop (i + 1) t) in
       record {
         pre = s.pre;
         split = s.split ∙ ap (λ os. s.pre ++ os) (at_drop_more (openings i) t i 0 h ∙ ap (λ b. cond b (i ∷ later) later) (ne_eqb (get_or t i 0) 40 other));
-        rows = s.rows;
-        places = s.places;
         room = s.room;
         some = s.some;
         all = s.all;
         fine = s.fine;
         read = s.read;
-        kept = s.kept;
       }
 
   module _ (here : get_or t i 0 ≡ 40) where
@@ -205,51 +199,46 @@ module _ (t : List ℕ) (i : ℕ) (ws : List Word) (at : List ℕ) (len : ℕ) (
       longer = omega (arith, length-append s.pre (i ∷ []))
 
       -- an earlier bracket
-      earlier : (j : ℕ) → j < len → get_or s.pre j 0 ≡ get_or (s.pre ++ i ∷ []) j 0
+      earlier : (j : ℕ) → j < length ws → get_or s.pre j 0 ≡ get_or (s.pre ++ i ∷ []) j 0
       earlier j l = sym (get_or_append_left s.pre (i ∷ []) 0 j (omega (arith, s.some)))
 
-      pub passed : (len < 61 → ⊥) → Scanned t (i + 1) ws at len
+      passed : 61 ≤ length ws → Scanned t (i + 1) ws
       passed full = record {
         pre = s.pre ++ i ∷ [];
         split = split_more;
-        rows = s.rows;
-        places = s.places;
         room = s.room;
         some = omega (arith, s.some, longer);
-        all = λ l. absurd (full l);
+        all = λ l. absurd (omega arith);
         fine = all_push (Fine t) s.pre i s.fine (w, reads);
         read = λ j l. subst (λ k. ReadsWord t k (Ok (word_at ws j))) (earlier j l) (s.read j l);
-        kept = λ j l. s.kept j l ∙ earlier j l;
       }
 
-      pub stored : len < 61 → Scanned t (i + 1) (set ws len w) (set at len i) (len + 1)
-      stored l61 = record {
-        pre = s.pre ++ i ∷ [];
-        split = split_more;
-        rows = length-set ws len w ∙ s.rows;
-        places = length-set at len i ∙ s.places;
-        room = omega arith;
-        some = omega (arith, s.some, longer);
-        all = λ l. omega (arith, s.all l61, longer);
-        fine = all_push (Fine t) s.pre i s.fine (w, reads);
-        read = λ j l. ⊎_elim
-            (λ less.
-            let ne : j ≢ len = λ e. omega arith in
-            let row : word_at ws j ≡ word_at (set ws len w) j = sym (get_or-set_other ws len j w no_word ne) in
-            subst (λ k. ReadsWord t k (Ok (word_at (set ws len w) j))) (earlier j less) (subst (λ v. ReadsWord t (get_or s.pre j 0) (Ok v)) row (s.read j less)))
-            (λ more.
-            let top : j ≡ len = omega arith in
-            let row : w ≡ word_at (set ws len w) j = sym (ap (word_at (set ws len w)) top ∙ get_or-set_same ws len w no_word (omega (arith, s.rows))) in
-            let last : i ≡ get_or (s.pre ++ i ∷ []) j 0 = sym (get_or_push s.pre i 0 j (sym (top ∙ s.all l61))) in
-            subst (λ k. ReadsWord t k (Ok (word_at (set ws len w) j))) last (subst (λ v. ReadsWord t i (Ok v)) row reads))
-            (cases_lt j len);
-        kept = λ j l. ⊎_elim
-            (λ less. let ne : j ≢ len = λ e. omega arith in get_or-set_other at len j i 0 ne ∙ s.kept j less ∙ earlier j less)
-            (λ more.
-            let top : j ≡ len = omega arith in
-            ap (λ k. get_or (set at len i) k 0) top ∙ get_or-set_same at len i 0 (omega (arith, s.places)) ∙ sym (get_or_push s.pre i 0 j (sym (top ∙ s.all l61))))
-            (cases_lt j len);
-      }
+      stored : length ws < 61 → Scanned t (i + 1) (ws ++ w ∷ [])
+      stored l61 =
+          let long : length (ws ++ w ∷ []) ≡ length ws + 1 = omega (arith, length-append ws (w ∷ [])) in
+          record {
+            pre = s.pre ++ i ∷ [];
+            split = split_more;
+            room = omega arith;
+            some = omega (arith, s.some, longer);
+            all = λ l. omega (arith, s.all l61, longer);
+            fine = all_push (Fine t) s.pre i s.fine (w, reads);
+            read = λ j l. ⊎_elim
+                (λ less.
+                let row : word_at ws j ≡ word_at (ws ++ w ∷ []) j = sym (get_or_append_left ws (w ∷ []) no_word j less) in
+                subst (λ k. ReadsWord t k (Ok (word_at (ws ++ w ∷ []) j))) (earlier j less) (subst (λ v. ReadsWord t (get_or s.pre j 0) (Ok v)) row (s.read j less)))
+                (λ more.
+                let top : j ≡ length ws = omega arith in
+                let row : w ≡ word_at (ws ++ w ∷ []) j = sym (get_or_push ws w no_word j (sym top)) in
+                let last : i ≡ get_or (s.pre ++ i ∷ []) j 0 = sym (get_or_push s.pre i 0 j (sym (top ∙ s.all l61))) in
+                subst (λ k. ReadsWord t k (Ok (word_at (ws ++ w ∷ []) j))) last (subst (λ v. ReadsWord t i (Ok v)) row reads))
+                (cases_lt j (length ws));
+          }
+
+      -- the word is kept if there is room
+      pub pushed : (vs : List Word) → (length ws < 61 → vs ≡ ws ++ w ∷ []) → (61 ≤ length ws → vs ≡ ws) → Scanned t (i + 1) vs
+      pushed vs room full =
+          ⊎_elim (λ l. subst (Scanned t (i + 1)) (sym (room l)) (stored l)) (λ l. subst (Scanned t (i + 1)) (sym (full l)) (passed l)) (cases_lt (length ws) 61)
 
     -- a number out of range
     pub faulty : (e : TextFault) → ReadsWord t i (Err e) → (f : Formula) → Nests 15 f → t ≡ flat (formula f []) → Spells t f (Err e)
@@ -264,9 +253,8 @@ module _ (t : List ℕ) (i : ℕ) (ws : List Word) (at : List ℕ) (len : ℕ) (
         (first.0, first.1, told.2 ∙ ap (λ m. OutOfRange (byte_place t m)) at_first)
 
 -- at the end of the text
-pub finished : (t : List ℕ) (i : ℕ) (ws : List Word) (at : List ℕ) (len : ℕ) → length t ≤ i → Scanned t i ws at len
-    → (f : Formula) → Nests 15 f → t ≡ flat (formula f []) → Spelt t f (record { words = ws; at = at; len = len })
-finished t i ws at len h s f n spelt =
+pub finished : (t : List ℕ) (i : ℕ) (ws : List Word) → length t ≤ i → Scanned t i ws → (f : Formula) → Nests 15 f → t ≡ flat (formula f []) → Spelt f ws
+finished t i ws h s f n spelt =
     let whole = found_at t 15 f n 0 [] spelt in
     let ends : openings whole.end (drop whole.end t) ≡ [] = ap (openings whole.end) whole.rest in
     let pre_all : openings 0 t ≡ s.pre = s.split ∙ ap (λ os. s.pre ++ os) (at_drop_all (openings i) t i h) ∙ append-nil s.pre in
@@ -277,7 +265,6 @@ finished t i ws at len h s f n spelt =
     let walked : first_out 0 (formula f []) ≡ None = whole.out ∙ fine_walk t whole.spots whole.stand (subst (All (Fine t)) (sym same) s.fine) None in
     record {
       fits = first-none (formula f []) 0 walked;
-      rows = s.rows;
       room = s.room;
       some = omega (arith, s.some, count, sizes);
       all = λ l. omega (arith, s.all l, count, sizes);
@@ -289,23 +276,15 @@ finished t i ws at len h s f n spelt =
           let is : spot.1 ≡ get_or (subformulas f) j f = sym (get_or-map of whole.spots j (0, f) f low) ∙ ap (λ fs. get_or fs j f) whole.names in
           let reads = subst (λ k. ReadsWord t k (Ok (word_at ws j))) stands (s.read j l) in
           (head_ok t spot.1 spot.0 (word_at ws j) (reads spot.1 st.1.0 st.0 st.1.1)).0 ∙ ap word_of is;
-      brackets = λ j l. s.kept j l ∙ ap (λ os. get_or os j 0) (sym pre_all);
     }
 
-pub begin : (t : List ℕ) (ws : List Word) (at : List ℕ) → length ws ≡ 61 → length at ≡ 61 → Scanned t 0 ws at 0
-begin t ws at l m = record {
+pub begin : (t : List ℕ) → Scanned t 0 []
+begin t = record {
   pre = [];
   split = refl;
-  rows = l;
-  places = m;
   room = omega arith;
   some = omega arith;
   all = λ _. refl;
   fine = tt;
   read = λ j h. absurd (omega arith);
-  kept = λ j h. absurd (omega arith);
 }
-
--- under other names
-pub renamed : (t : List ℕ) (i : ℕ) (ws vs : List Word) (at bt : List ℕ) (m n : ℕ) → ws ≡ vs → at ≡ bt → m ≡ n → Scanned t i vs bt n → Scanned t i ws at m
-renamed t i ws vs at bt m n e f g s = subst (λ x. Scanned t i x at m) (sym e) (subst (λ x. Scanned t i vs x m) (sym f) (subst (Scanned t i vs bt) (sym g) s))

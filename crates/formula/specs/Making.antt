@@ -9,7 +9,7 @@ use Rattle.text.specs.Ranges.{InRange, FirstOut}
 use Rattle.formula.specs.declared.fault.RuleFault.{RuleFault}
 use Rattle.formula.specs.declared.fault.RuleFault.TheVariants.{Void, Text, TooMany, Variable, Label, Thread}
 use Rattle.formula.specs.declared.formula.Formula.{Formula as Compiled}
-use Rattle.formula.specs.declared.spelling.Spelling.{Spelling}
+use Rattle.formula.specs.declared.word.Word.{Word}
 use Rattle.formula.specs.Meant.{starts_of}
 use Rattle.formula.specs.Spelling.{Spelt}
 use Rattle.formula.specs.Suiting.{Suited, Faulty}
@@ -66,8 +66,8 @@ WatchesText starts t (Ok c) = (f : Formula) → Nests 15 f → t ≡ flat (formu
 WatchesText starts t (Err fault) = Unit {0}
 
 -- what reading the text comes to: the words of the formula that it spells, or what is wrong with it
-abbrev pub ReadsText : List ℕ → Result Spelling TextFault → Type 0
-ReadsText t (Ok s) = (length t ≤ 60000) × LegalRule t × ((f : Formula) → Nests 15 f → t ≡ flat (formula f []) → Spelt t f s)
+abbrev pub ReadsText : List ℕ → Result (List Word) TextFault → Type 0
+ReadsText t (Ok ws) = (length t ≤ 60000) × LegalRule t × ((f : Formula) → Nests 15 f → t ≡ flat (formula f []) → Spelt f ws)
 ReadsText t (Err fault) = TextFaulty t fault
 
 -- what a check of the text's shape comes to

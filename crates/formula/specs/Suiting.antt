@@ -1,5 +1,5 @@
 -- Which words a trace has a variable, a label or a thread for.
-use Rattle.std.specs.Prelude.{◌≡◌, ℕ, ◌<◌, ◌≤◌, Bool, true, false, List, Some, None, Option, nat_lt, slice_index_or}
+use Rattle.std.specs.Prelude.{◌≡◌, ℕ, ◌<◌, ◌≤◌, Bool, true, false, List, Ok, Err, Result, nat_lt, slice_index_or}
 use Rattle.grammar.specs.Recording.{Formula}
 use Rattle.text.specs.declared.place.Place.{Place}
 use Rattle.text.specs.Places.{byte_place}
@@ -67,6 +67,7 @@ Faulty v t f (Variable p) = (size f ≤ 60) × Unsuited v t f (Variable p)
 Faulty v t f (Label p) = (size f ≤ 60) × Unsuited v t f (Label p)
 Faulty v t f (Thread p) = (size f ≤ 60) × Unsuited v t f (Thread p)
 
-abbrev pub FaultOf : ℕ → List ℕ → Formula → Option RuleFault → Type 0
-FaultOf v t f (Some fault) = Faulty v t f fault
-FaultOf v t f None = (size f ≤ 60) × Suited v f
+-- whether it is refused
+abbrev pub FaultOf : ℕ → List ℕ → Formula → Result (Unit {0}) RuleFault → Type 0
+FaultOf v t f (Ok u) = (size f ≤ 60) × Suited v f
+FaultOf v t f (Err fault) = Faulty v t f fault

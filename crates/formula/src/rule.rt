@@ -8,7 +8,7 @@ use crate::fault::RuleFault;
 use crate::formula::Formula;
 use crate::spell::spell;
 use crate::spelling::Spelling;
-use crate::suiting::fault_of;
+use crate::suiting::check;
 use grammar::{Flaw, check_rule};
 use text::{TextFault, place_at};
 use trace::Trace;
@@ -55,10 +55,8 @@ fn made(starts: &[i32], text: &[u8]) -> Result<Formula, RuleFault>
 {
     let spelling = read(text)?;
     let variables = starts.len() as u8;
-    if let Some(fault) = fault_of(&spelling, text, variables) {
-        return Err(fault);
-    }
-    let table = compile(&spelling.words[..spelling.len]).unwrap();
+    check(&spelling, text, variables)?;
+    let table = compile(spelling.as_slice()).unwrap();
     let nodes = table.nodes;
     Ok(Formula {
         nodes,

@@ -1,10 +1,50 @@
 // What is read of the text of a formula.
-use crate::word::Word;
+ghost use Rattle.std.specs.Prelude.{◌≡◌, ◌<◌, ◌≤◌, List, [], ◌∷◌, ◌++◌, length, take};
+ghost use Rattle.formula.specs.declared.word.Word.{Word as Spoken};
 
-// The first 61 words of a formula, and how many bytes stand ahead of the bracket of each.
-#[derive(Clone, Copy)]
+use crate::word::Word;
+use std::marker::Model;
+
+// The first 61 words of a formula: one more than a formula may have.
+#[derive(Drop)]
 pub(crate) struct Spelling {
-    pub(crate) words: [Word; 61],
-    pub(crate) at: [usize; 61],
-    pub(crate) len: usize,
+    words: [Word; 61],
+    len: usize,
+}
+
+impl Model for Spelling {
+    ghost Value = { List Spoken };
+
+    ghost view = { λ s. take s.len s.words };
+
+    ghost invariant = { λ s. s.len ≤ 61 };
+}
+
+impl Spelling {
+    pub(crate) fn new() -> Spelling
+        ensures { result ≡ [] }
+    {
+        Spelling {
+            words: [Word::Not; 61],
+            len: 0,
+        }
+    }
+
+    // Takes in the word behind the others, if there is room.
+    pub(crate) fn push(&mut self, word: Word)
+        ensures room { length self.old < 61 → self.new ≡ self.old ++ word ∷ [] }
+        ensures full { 61 ≤ length self.old → self.new ≡ self.old }
+    {
+        if self.len < 61 {
+            self.words[self.len] = word;
+            self.len += 1;
+        }
+    }
+
+    pub(crate) fn as_slice(&self) -> &[Word]
+        ensures words { result.now ≡ self.now }
+        ensures few { length self.now ≤ 61 }
+    {
+        &self.words[..self.len]
+    }
 }

@@ -1,5 +1,6 @@
 // Whether a trace has the variables, labels and threads that a formula names.
-ghost use Rattle.std.specs.Prelude.{◌≡◌, ◌≤◌};
+ghost use Rattle.std.specs.Prelude.{◌≡◌, ◌≤◌, ◌<◌, length};
+ghost use Rattle.formula.specs.Reading.{openings, bracket_at};
 ghost use Rattle.formula.specs.Spelling.{FaultBy};
 ghost use Rattle.formula.specs.Suiting.{suits, refused};
 
@@ -30,19 +31,32 @@ fn refusal(word: Word, place: Place) -> RuleFault
     }
 }
 
-// Why the formula is refused, if it is.
-pub(crate) fn fault_of(spelling: &Spelling, text: &[u8], variables: u8) -> Option<RuleFault>
-    requires { spelling.now.len ≤ 61 }
-    ensures { FaultBy spelling.now variables text.now result }
+// Where the opening bracket stands that has this many others ahead of it, or 0 if there is none.
+fn bracket(text: &[u8], ahead: usize) -> usize
+    ensures { result ≡ bracket_at text.now ahead }
 {
-    if spelling.len > 60 {
-        return Some(RuleFault::TooMany(place_at(text, spelling.at[60])));
-    }
-    for j in 0..spelling.len {
-        let word = spelling.words[j];
-        if !is_suited(word, variables) {
-            return Some(refusal(word, place_at(text, spelling.at[j])));
+    let mut left = ahead;
+    for (at, byte) in text.iter().enumerate() {
+        if *byte == b'(' {
+            if left == 0 {
+                return at;
+            }
+            left -= 1;
         }
     }
-    None
+    0
+}
+
+// Whether a formula has at most 60 subformulas, and each of them suits.
+pub(crate) fn check(spelling: &Spelling, text: &[u8], variables: u8) -> Result<(), RuleFault>
+    ensures { FaultBy spelling.now variables text.now result }
+{
+    let words = spelling.as_slice();
+    if words.len() > 60 {
+        return Err(RuleFault::TooMany(place_at(text, bracket(text, 60))));
+    }
+    match words.iter().position(|word| !is_suited(*word, variables)) {
+        Some(j) => Err(refusal(words[j], place_at(text, bracket(text, j)))),
+        None => Ok(()),
+    }
 }

@@ -1,6 +1,7 @@
 use Rattle.std.proofs.Common.{◌≡◌, ◌≤◌, List, [], length, Err, sym, ap, ◌∙◌, subst, arith}
 use Rattle.std.proofs.lemmas.Result.{err_from_is_err_and}
 use Rattle.formula.specs.Making.{MadeFrom, WatchesText}
+use Rattle.formula.specs.Words.{CompiledTo}
 use Rattle.formula.proofs.Made.{is_some, tabled}
 use Rattle.formula.proofs.Rows.{sound_from}
 use Rattle.formula.proofs.Stands.{watch_from}
@@ -18,7 +19,7 @@ returns-in_err-spelling c =
 
 pub unwrap-table-requires : goal.unwrap-table-requires
 unwrap-table-requires c =
-    is_some c.args.text.now (length c.args.starts.now) c.in_ok-spelling.spelling c.in_ok-spelling.ensures.1 c.in_ok-spelling.ensures.2 c.in_default.ensures c.compile.result c.compile.ensures.table
+    is_some c.args.text.now (length c.args.starts.now) c.in_ok-spelling.spelling c.in_ok-spelling.ensures.1 c.in_ok-spelling.ensures.2 c.in_ok-check.ensures c.compile.result (subst (λ ws. CompiledTo ws c.compile.result) c.as_slice.ensures.words c.compile.ensures.table)
 
 pub invariant_of-result : goal.invariant_of-result
 invariant_of-result c =
@@ -27,9 +28,9 @@ invariant_of-result c =
     let read = c.in_ok-spelling.ensures in
     let legal = read.1 in
     let sp = read.2 legal.0 legal.1 legal.2 in
-    let told = c.in_default.ensures legal.0 sp in
+    let told = c.in_ok-check.ensures legal.0 sp in
     let x = c.unwrap-table.result in
-    let tab = tabled t v c.in_ok-spelling.spelling legal read.2 c.in_default.ensures c.compile.result c.compile.ensures.table x c.unwrap-table.ensures legal.0 legal.1 legal.2 in
+    let tab = tabled t v c.in_ok-spelling.spelling legal read.2 c.in_ok-check.ensures c.compile.result (subst (λ ws. CompiledTo ws c.compile.result) c.as_slice.ensures.words c.compile.ensures.table) x c.unwrap-table.ensures legal.0 legal.1 legal.2 in
     record {
       some = omega (arith, tab.all, size_pos legal.0);
       few = omega (arith, tab.all, told.0);
@@ -44,9 +45,9 @@ returns c =
     let read = c.in_ok-spelling.ensures in
     let legal = read.1 in
     let sp = read.2 legal.0 legal.1 legal.2 in
-    let told = c.in_default.ensures legal.0 sp in
+    let told = c.in_ok-check.ensures legal.0 sp in
     let x = c.unwrap-table.result in
-    let tab = tabled t v c.in_ok-spelling.spelling legal read.2 c.in_default.ensures c.compile.result c.compile.ensures.table x c.unwrap-table.ensures in
+    let tab = tabled t v c.in_ok-spelling.spelling legal read.2 c.in_ok-check.ensures c.compile.result (subst (λ ws. CompiledTo ws c.compile.result) c.as_slice.ensures.words c.compile.ensures.table) x c.unwrap-table.ensures in
     record {
       made = record {
         of = legal.0;

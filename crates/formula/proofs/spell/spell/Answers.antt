@@ -1,28 +1,25 @@
-use Rattle.std.proofs.Common.{◌+◌, refl, arith}
-use Rattle.formula.proofs.Scan.{begin, skipped, passed, stored, faulty, finished, renamed}
+use Rattle.std.proofs.Common.{◌+◌, Err, sym, ap, ◌∙◌, subst, arith}
+use Rattle.std.proofs.lemmas.Result.{err_from_is_err_and}
+use Rattle.formula.specs.Spelling.{Spells}
+use Rattle.formula.proofs.Scan.{Scanned, skipped, pushed, faulty, finished}
 use Rattle.formula.proofs.spell.spell.Goals as goal
-use Rattle.formula.proofs.spell.spell.Goals.{then-text-i-eq40+in-Ok+then-len-lt61, then-text-i-eq40+in-Ok+else-len-lt61, else-text-i-eq40}
+use Rattle.formula.proofs.spell.spell.Goals.{then-byte-eq40+in_ok-word_at, else-byte-eq40}
 
-pub loop-i-init : goal.loop-i-init
-loop-i-init c = begin c.args.text.now _ _ refl refl
-
-pub returns-in-Err : goal.returns-in-Err
-returns-in-Err c f n e =
-    faulty c.args.text.now c.loop-i.i c.loop-i.words c.loop-i.at c.loop-i.len (omega arith) c.loop-i.invariant c.if-text-i-eq40.true
-    c.in-Err.fault c.in-Err.ensures f n e
-
-pub loop-i-preserved : goal.loop-i-preserved
-loop-i-preserved c =
+pub returns-in_err-word_at : goal.returns-in_err-word_at
+returns-in_err-word_at c f n e =
     let t = c.args.text.now in
-    let l = c.loop-i in
-    elim c.if-text-i-eq40.branch [
-      | then-text-i-eq40+in-Ok+then-len-lt61 w ↦ renamed t (l.i + 1) _ _ _ _ _ _ w.words-is w.at-is w.len-is
-          (stored t l.i l.words l.at l.len (omega arith) l.invariant w.if-text-i-eq40.true w.in-Ok.word w.in-Ok.ensures w.if-len-lt61.true)
-      | then-text-i-eq40+in-Ok+else-len-lt61 w ↦ renamed t (l.i + 1) _ _ _ _ _ _ w.words-is w.at-is w.len-is
-          (passed t l.i l.words l.at l.len (omega arith) l.invariant w.if-text-i-eq40.true w.in-Ok.word w.in-Ok.ensures (λ h. omega (arith, h, w.if-len-lt61.false)))
-      | else-text-i-eq40 w ↦ renamed t (l.i + 1) _ _ _ _ _ _ w.words-is w.at-is w.len-is
-          (skipped t l.i l.words l.at l.len (omega arith) l.invariant w.if-text-i-eq40.false)
+    let p = err_from_is_err_and c.from_residual.result c.from_residual.ensures.1 in
+    subst (Spells t f) (sym (p.1 ∙ ap Err p.2))
+    (faulty t c.loop-at.at c.loop-at.spelling (omega arith) c.loop-at.invariant c.if-byte-eq40.true _ c.in_err-word_at.ensures f n e)
+
+pub loop-at-preserved : goal.loop-at-preserved
+loop-at-preserved c =
+    let t = c.args.text.now in
+    let l = c.loop-at in
+    elim c.if-byte-eq40.branch [
+      | then-byte-eq40+in_ok-word_at w ↦ subst (λ s. Scanned t (l.at + 1) s) (sym w.spelling-is) (pushed t l.at l.spelling (omega arith) l.invariant w.if-byte-eq40.true _ w.in_ok-word_at.ensures _ w.push.ensures.room w.push.ensures.full)
+      | else-byte-eq40 w ↦ subst (λ s. Scanned t (l.at + 1) s) (sym w.spelling-is) (skipped t l.at l.spelling (omega arith) l.invariant w.if-byte-eq40.false)
     ]
 
 pub returns : goal.returns
-returns c f n e = finished c.args.text.now c.loop-i.i c.loop-i.words c.loop-i.at c.loop-i.len (omega arith) c.loop-i.invariant f n e
+returns c f n e = finished c.args.text.now c.loop-at.at c.loop-at.spelling (omega arith) c.loop-at.invariant f n e
