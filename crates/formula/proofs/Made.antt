@@ -1,5 +1,5 @@
 -- From the words of a text to the table of the formula that it spells.
-use Rattle.std.proofs.Common.{◌≡◌, ℕ, ◌≤◌, true, List, [], length, is_some as option_is_some, Some, None, Option, sym, refl, ◌∙◌, subst, arith}
+use Rattle.std.proofs.Common.{◌≡◌, ℕ, ◌≤◌, true, List, [], length, is_some as option_is_some, Some, None, Option, sym, refl, subst, arith}
 use Rattle.grammar.specs.Recording.{Formula, Nests, LegalRule, flat, formula}
 use Rattle.formula.specs.declared.node.Table.{Table}
 use Rattle.formula.specs.declared.word.Word.{Word}

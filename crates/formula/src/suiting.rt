@@ -35,16 +35,12 @@ fn refusal(word: Word, place: Place) -> RuleFault
 fn bracket(text: &[u8], ahead: usize) -> usize
     ensures { result ≡ bracket_at text.now ahead }
 {
-    let mut left = ahead;
-    for (at, byte) in text.iter().enumerate() {
-        if *byte == b'(' {
-            if left == 0 {
-                return at;
-            }
-            left -= 1;
-        }
-    }
-    0
+    let mut brackets = text
+        .iter()
+        .enumerate()
+        .filter(|(_, byte)| **byte == b'(')
+        .map(|(at, _)| at);
+    brackets.nth(ahead).unwrap_or(0)
 }
 
 // Whether a formula has at most 60 subformulas, and each of them suits.

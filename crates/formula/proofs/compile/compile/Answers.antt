@@ -1,4 +1,4 @@
-use Rattle.std.proofs.Common.{◌≡◌, ◌+◌, ◌-◌, List, length, sym, ap, ◌∙◌, ⊎_elim, arith, length-set}
+use Rattle.std.proofs.Common.{◌≡◌, ◌-◌, List, length, sym, ◌∙◌, ⊎_elim, arith, length-set}
 use Rattle.std.proofs.lemmas.List.{drop-set-lt, drop-replicate}
 use Rattle.formula.specs.declared.node.Node.TheVariants.{Mark}
 use Rattle.formula.specs.declared.word.Word.{Word}

@@ -1,4 +1,4 @@
-use Rattle.std.proofs.Common.{◌≡◌, ◌≤◌, List, [], length, Err, sym, ap, ◌∙◌, subst, arith}
+use Rattle.std.proofs.Common.{length, Err, sym, ap, ◌∙◌, subst, arith}
 use Rattle.std.proofs.lemmas.Result.{err_from_is_err_and}
 use Rattle.formula.specs.Making.{MadeFrom, WatchesText}
 use Rattle.formula.specs.Words.{CompiledTo}
