@@ -1,5 +1,5 @@
 -- The truths of a table after an event.
-use Rattle.std.proofs.Common.{◌≡◌, ℕ, zero, suc, ◌+◌, ◌-◌, ◌^◌, ◌<◌, ◌≤◌, Bool, true, false, not, ◌&&◌, ◌||◌, eqb, ltb, leb, ◌⊎◌, List, sym, refl, ap, ◌∙◌, inl, inr, arith}
+use Rattle.std.proofs.Common.{◌≡◌, ℕ, zero, suc, ◌+◌, ◌^◌, ◌<◌, ◌≤◌, Bool, true, false, not, ◌&&◌, ◌||◌, eqb, ltb, leb, ◌⊎◌, List, sym, refl, ap, ◌∙◌, inl, inr, arith}
 use mathlib.Core.Bool.{or-false, and-true, and-false}
 use lib.Bits.{bit_or}
 use Rattle.std.proofs.lemmas.Bool.{ltb-true, and_parts, cases_order, lt-leb, le-leb, lt-ltb, eq-eqb, ne_eqb}
@@ -150,25 +150,20 @@ from_truth v n nodes s few old e i h =
     bit_code 62 (from n t (i + 1)) k (omega arith) ∙ rw (a, b))
     ∙ sym (eval_fix v n nodes s old e i h)
 
--- a turn of the loop at i - 1
-module _ (v n : ℕ) (nodes : List Node) (s : Sound v n nodes) (few : n ≤ 60) (c : ℕ) (e : Action) (i next : ℕ) (pos : 0 < i) (at : i ≤ n)
-    (inv : next ≡ code_of 62 (from n (eval n nodes (bit_of c) e) i)) where
-  told : truth (node_at nodes (i - 1)) (i - 1) (bit_of c) (bit_of next) e ≡ eval n nodes (bit_of c) e (i - 1)
+-- a turn of the loop at i, where the truths from k on are known, which is i + 1
+module _ (v n : ℕ) (nodes : List Node) (s : Sound v n nodes) (few : n ≤ 60) (c : ℕ) (e : Action) (i k next : ℕ) (node : Node) (low : i < n) (behind : k ≡ i + 1) (here : node_at nodes i ≡ node)
+    (inv : next ≡ code_of 62 (from n (eval n nodes (bit_of c) e) k)) where
+  start : next ≡ code_of 62 (from n (eval n nodes (bit_of c) e) (i + 1))
+  start = inv ∙ ap (λ x. code_of 62 (from n (eval n nodes (bit_of c) e) x)) behind
+
+  told : truth node i (bit_of c) (bit_of next) e ≡ eval n nodes (bit_of c) e i
   told =
-      let t = eval n nodes (bit_of c) e in
-      let back : i ≡ i - 1 + 1 = omega arith in
-      ap (λ x. truth (node_at nodes (i - 1)) (i - 1) (bit_of c) (bit_of x) e) (inv ∙ ap (λ x. code_of 62 (from n t x)) back)
-      ∙ from_truth v n nodes s few (bit_of c) e (i - 1) (omega arith)
+      ap (λ p. truth p i (bit_of c) (bit_of next) e) (sym here)
+      ∙ ap (λ x. truth (node_at nodes i) i (bit_of c) (bit_of x) e) start
+      ∙ from_truth v n nodes s few (bit_of c) e i low
 
-  pub turn_yes : truth (node_at nodes (i - 1)) (i - 1) (bit_of c) (bit_of next) e ≡ true → bit_or next (2 ^ (i - 1)) ≡ code_of 62 (from n (eval n nodes (bit_of c) e) (i - 1))
-  turn_yes h =
-      let t = eval n nodes (bit_of c) e in
-      let back : i ≡ i - 1 + 1 = omega arith in
-      ap (λ x. bit_or x (2 ^ (i - 1))) (inv ∙ ap (λ x. code_of 62 (from n t x)) back)
-      ∙ from_yes n t (i - 1) (omega arith) few (sym told ∙ h)
+  pub turn_yes : truth node i (bit_of c) (bit_of next) e ≡ true → bit_or next (2 ^ i) ≡ code_of 62 (from n (eval n nodes (bit_of c) e) i)
+  turn_yes h = ap (λ x. bit_or x (2 ^ i)) start ∙ from_yes n (eval n nodes (bit_of c) e) i low few (sym told ∙ h)
 
-  pub turn_no : truth (node_at nodes (i - 1)) (i - 1) (bit_of c) (bit_of next) e ≡ false → next ≡ code_of 62 (from n (eval n nodes (bit_of c) e) (i - 1))
-  turn_no h =
-      let t = eval n nodes (bit_of c) e in
-      let back : i ≡ i - 1 + 1 = omega arith in
-      inv ∙ ap (λ x. code_of 62 (from n t x)) back ∙ from_no n t (i - 1) (omega arith) (sym told ∙ h)
+  pub turn_no : truth node i (bit_of c) (bit_of next) e ≡ false → next ≡ code_of 62 (from n (eval n nodes (bit_of c) e) i)
+  turn_no h = start ∙ from_no n (eval n nodes (bit_of c) e) i low (sym told ∙ h)

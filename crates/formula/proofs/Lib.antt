@@ -7,6 +7,7 @@ pub mod Parts
 pub mod Stands
 pub mod Spelt
 pub mod Views
+mod Backward
 mod Openings
 mod Bytes
 mod Figures

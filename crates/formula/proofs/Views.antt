@@ -1,12 +1,12 @@
 -- One row of words spells one formula at most.
-use Rattle.std.proofs.Common.{◌≡◌, ℕ, zero, suc, ◌+◌, ◌<◌, ◌≤◌, ◌⊎◌, List, get_or, sym, refl, ap, ◌∙◌, subst, inl, inr, ⊎_elim, arith}
+use Rattle.std.proofs.Common.{◌≡◌, ℕ, zero, suc, ◌+◌, ◌<◌, ◌≤◌, ◌⊎◌, List, length, get_or, sym, refl, ap, ◌∙◌, subst, inl, inr, ⊎_elim, arith}
 use Rattle.std.proofs.lemmas.Bool.{cases_lt}
 use Rattle.formula.specs.declared.node.Node.{Node}
 use Rattle.formula.specs.declared.word.Word.{Word}
 use Rattle.formula.specs.declared.word.Word.TheVariants.{Eq as EqW, Lt as LtW, Gt as GtW, Mark as MarkW, By as ByW, Not as NotW, And as AndW, Or as OrW, Implies as ImpliesW, Before as BeforeW, Once as OnceW, Always as AlwaysW, Since as SinceW}
 use Rattle.grammar.specs.Recording.{Formula, eq, lt, gt, mark, by, neg, before, once, always, and, or, implies, since}
 use Rattle.formula.specs.Truth.{size}
-use Rattle.formula.specs.Words.{word_at, Spells, Missing}
+use Rattle.formula.specs.Words.{word_at, Spells, Spell, OneFormula, Missing}
 use Rattle.formula.proofs.Truths.{size_pos}
 use Rattle.formula.proofs.Spelt.{Good}
 
@@ -155,3 +155,10 @@ stuck ws n nodes ends i low later miss f s all = go (sub ws n 0 f i n (omega ari
             let x = later (i + 1) (omega arith) here in
             let same = same_size ws (i + 1) g x.form sg x.spelt in
             omega (arith, q.1 here, x.ends_at, same, b.fits, size_pos h)
+
+pub one_formula : (ws : List Word) → OneFormula ws
+one_formula ws f g s t = one_spelt ws 0 f g s.0 t.0
+
+-- of no words, or more than 60, there is nothing to compile
+pub none_fits : (ws : List Word) → (length ws ≡ 0) ⊎ (60 < length ws) → length ws ≤ 60 → (f : Formula) → Spell ws f → ⊥
+none_fits ws h few f s = ⊎_elim (λ e. omega (arith, e, s.1, size_pos f)) (λ m. omega (arith, m, few)) h

@@ -39,7 +39,7 @@ pub record Makes (starts : List ℤ) (t : List ℕ) (c : Compiled) : Type 0 wher
   pub written : Written t of
   pub few : size of ≤ 60
   pub suited : Suited (length starts) of
-  pub tabled : Tabled c.nodes c.len of
+  pub tabled : Tabled c.table.nodes c.table.len of
   pub begins : starts_of c ≡ starts
 
 -- why a text is refused, where the trace is not void

@@ -23,8 +23,8 @@ starts_of t = take t.variables t.starts
 -- bit 61 marks the bad codes
 abbrev pub meant : Compiled → Meaning
 meant t = record {
-  start = started (starts_of t) t.nodes t.len;
-  step = stepped t.nodes t.len;
+  start = started (starts_of t) t.table.nodes t.table.len;
+  step = stepped t.table.nodes t.table.len;
   bad = λ c. bit_of c 61;
-  stays = λ c a h. bad_stays t.nodes t.len c a t.few h;
+  stays = λ c a h. bad_stays t.table.nodes t.table.len c a t.table.few h;
 }

@@ -32,4 +32,4 @@ pub record Watches (starts : List ℤ) (t : Compiled) (f : Formula) : Type 0 whe
 
 -- the theorem: so do those of every table that is a formula's
 abbrev pub AllWatch : Type 0
-AllWatch = (t : Compiled) (f : Formula) → Tabled t.nodes t.len f → Watches (starts_of t) t f
+AllWatch = (t : Compiled) (f : Formula) → Tabled t.table.nodes t.table.len f → Watches (starts_of t) t f

@@ -1,4 +1,5 @@
 // Tables of subformulas.
+ghost use Rattle.std.specs.Prelude.{◌≡◌, ◌<◌, ◌≤◌, length, take};
 
 // One subformula. It names a variable and a constant, a label, a thread, or its parts by their
 // numbers.
@@ -24,4 +25,15 @@ pub enum Node {
 pub struct Table {
     pub nodes: [Node; 60],
     pub len: u8,
+    ghost some: { 0 < len },
+    ghost few: { len ≤ 60 },
+}
+
+impl Table {
+    pub(crate) fn as_slice(&self) -> &[Node]
+        ensures nodes { result.now ≡ take self.now.len self.now.nodes }
+        ensures len { length result.now ≡ self.now.len }
+    {
+        &self.nodes[..usize::from(self.len)]
+    }
 }

@@ -57,10 +57,8 @@ fn made(starts: &[i32], text: &[u8]) -> Result<Formula, RuleFault>
     let variables = starts.len() as u8;
     check(&spelling, text, variables)?;
     let table = compile(spelling.as_slice()).unwrap();
-    let nodes = table.nodes;
     Ok(Formula {
-        nodes,
-        len: table.len,
+        table,
         variables,
         starts: padded(starts),
     })

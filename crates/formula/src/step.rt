@@ -73,12 +73,12 @@ fn begins(node: Node, starts: &[i32; 32]) -> bool
 
 // The code ahead of the first event.
 pub(crate) fn start_code(formula: &Formula) -> u64
-    ensures { result ≡ started (starts_of formula.now) formula.now.nodes formula.now.len }
+    ensures { result ≡ started (starts_of formula.now) formula.now.table.nodes formula.now.table.len }
 {
     let mut code = 0;
-    for i in 0..formula.len {
-        if begins(formula.nodes[i as usize], &formula.starts) {
-            code |= only(i);
+    for (i, node) in formula.table.as_slice().iter().enumerate() {
+        if begins(*node, &formula.starts) {
+            code |= only(i as u8);
         }
     }
     code
@@ -87,13 +87,14 @@ pub(crate) fn start_code(formula: &Formula) -> u64
 // The code after the action. Parts stand behind the subformulas that they are parts of, so the pass
 // goes from the last subformula to the first.
 pub(crate) fn next_code(formula: &Formula, code: u64, action: Action) -> u64
-    ensures value { result ≡ stepped formula.now.nodes formula.now.len code action }
-    ensures rule { Turn formula.now.nodes formula.now.len code action result }
-    ensures alone { (q : ℕ) → Turn formula.now.nodes formula.now.len code action q → q ≡ result }
+    ensures value { result ≡ stepped formula.now.table.nodes formula.now.table.len code action }
+    ensures rule { Turn formula.now.table.nodes formula.now.table.len code action result }
+    ensures alone { (q : ℕ) → Turn formula.now.table.nodes formula.now.table.len code action q → q ≡ result }
 {
     let mut next = 0;
-    for i in (0..formula.len).rev() {
-        if holds(formula.nodes[i as usize], i, code, next, action) {
+    for (i, node) in formula.table.as_slice().iter().enumerate().rev() {
+        let i = i as u8;
+        if holds(*node, i, code, next, action) {
             next |= only(i);
         }
     }

@@ -19,8 +19,8 @@ impl Monitor for Formula {
     // The step is the one code that the rule allows, whatever code it starts from.
     fn step(&self, code: u64, action: Action) -> u64
         ensures value { result ≡ (meant self.now).step code action }
-        ensures rule { Turn self.now.nodes self.now.len code action result }
-        ensures alone { (q : ℕ) → Turn self.now.nodes self.now.len code action q → q ≡ result }
+        ensures rule { Turn self.now.table.nodes self.now.table.len code action result }
+        ensures alone { (q : ℕ) → Turn self.now.table.nodes self.now.table.len code action q → q ≡ result }
     {
         next_code(self, code, action)
     }

@@ -1,66 +1,84 @@
-use Rattle.std.proofs.Common.{◌≡◌, ◌-◌, List, length, sym, ◌∙◌, ⊎_elim, arith, length-set}
+use Rattle.std.proofs.Common.{◌≡◌, length, sym, refl, ap, ◌∙◌, inl, inr, ⊎_elim, subst, arith, length-set, length-take}
 use Rattle.std.proofs.lemmas.List.{drop-set-lt, drop-replicate}
 use Rattle.formula.specs.declared.node.Node.TheVariants.{Mark}
-use Rattle.formula.specs.declared.word.Word.{Word}
 use Rattle.formula.specs.Truth.{size}
-use Rattle.formula.specs.Words.{OneFormula}
+use Rattle.formula.specs.Words.{no_word, word_at, Placing, Missing, CompiledTo}
+use Rattle.formula.proofs.Backward.{rest, begun, Taken, taken}
 use Rattle.formula.proofs.Spelt.{more}
-use Rattle.formula.proofs.Truths.{size_pos}
-use Rattle.formula.proofs.Views.{one_spelt, same_size, stuck}
+use Rattle.formula.proofs.Views.{one_formula, none_fits, same_size, stuck}
 use Rattle.formula.proofs.compile.compile.Goals as goal
 
-one_formula : (ws : List Word) → OneFormula ws
-one_formula ws f g s t = one_spelt ws 0 f g s.0 t.0
+pub returns-then-words-eq0-clause-table : goal.returns-then-words-eq0-clause-table
+returns-then-words-eq0-clause-table c few f s = ⊎_elim (λ e. none_fits c.args.words.now (inl e) few f s) (λ h. none_fits c.args.words.now (inr h.1) few f s) c.then-words-eq0.either
+
+pub returns-then-words-eq0-clause-one : goal.returns-then-words-eq0-clause-one
+returns-then-words-eq0-clause-one c = one_formula c.args.words.now
+
+pub loop-i-init : goal.loop-i-init
+loop-i-init c =
+    let ws = c.args.words.now in
+    let whole : rest c.into_iter-i-iterator.result ≡ ws = cc (c.into_iter-i-iterator.ensures.into_iter_gives, c.rev-i-items.ensures.source, c.enumerate.ensures.source, c.iter.ensures.rest) in
+    record {
+      ahead = begun ws _ whole (cc (c.into_iter-i-iterator.ensures.into_iter_gives, c.rev-i-items.ensures.source, c.enumerate.ensures.count));
+      rows = refl;
+      ends = length-take (length ws) _ ∙ omega arith;
+      good = λ k a b. absurd (omega (arith, ap length whole));
+      blank = refl;
+    }
 
 pub loop-i-preserved : goal.loop-i-preserved
 loop-i-preserved c =
     let ws = c.args.words.now in
-    let j = c.loop-i.i - 1 in (
-      simp length-set c.loop-i.invariant.0,
-      simp length-set c.loop-i.invariant.1,
-      more ws (length ws) c.loop-i.nodes c.loop-i.ends j c.in-Some.node c.in-Some.end
-          (omega arith) (omega (arith, c.loop-i.invariant.0)) (omega (arith, c.loop-i.invariant.1))
-          (λ k l u. c.loop-i.invariant.2 k (omega arith) u)
-          c.in-Some.ensures,
-      drop-set-lt (length ws) c.loop-i.nodes j c.in-Some.node (omega arith) ∙ c.loop-i.invariant.3,
-    )
+    let l = c.loop-i in
+    let i = c.in-Some.i in
+    let node = c.in_ok-node.node in
+    let end = c.in_ok-node.end in
+    let h = c.in-Some.ensures.steps in
+    let t : Taken ws no_word l.i-iterator c.next.new.self i c.in-Some.word.now = taken ws no_word l.i-iterator c.next.new.self i c.in-Some.word.now l.invariant.ahead h.0 h.1.0 h.1.1 in
+    let placed : Placing i (length ws) l.ends (word_at ws i) node end =
+    subst (λ w. Placing i (length ws) l.ends w node end) (sym t.item) (subst (λ n. Placing i n l.ends c.in-Some.word.now node end) l.invariant.ends c.in_ok-node.ensures) in
+    record {
+      ahead = t.ahead;
+      rows = simp length-set l.invariant.rows;
+      ends = simp length-set l.invariant.ends;
+      good = λ k a b. more ws (length ws) l.nodes l.ends i node end t.low (omega (arith, t.low, l.invariant.rows)) (omega (arith, t.low, l.invariant.ends))
+          (λ j m u. l.invariant.good j (omega (arith, t.more)) u) placed k (omega (arith, t.here)) b;
+      blank = drop-set-lt (length ws) l.nodes i node t.low ∙ l.invariant.blank;
+    }
 
-pub returns-then-ends-len : goal.returns-then-ends-len
-returns-then-ends-len c =
-    let g = c.loop-i.invariant.2 0 (omega arith) (omega arith) in
+pub returns-in_err-node-clause-table : goal.returns-in_err-node-clause-table
+returns-in_err-node-clause-table c =
+    let ws = c.args.words.now in
+    let l = c.loop-i in
+    let i = c.in-Some.i in
+    let h = c.in-Some.ensures.steps in
+    let t : Taken ws no_word l.i-iterator c.next.new.self i c.in-Some.word.now = taken ws no_word l.i-iterator c.next.new.self i c.in-Some.word.now l.invariant.ahead h.0 h.1.0 h.1.1 in
+    let miss : Missing i (length ws) l.ends (word_at ws i) =
+    subst (λ w. Missing i (length ws) l.ends w) (sym t.item) (subst (λ n. Missing i n l.ends c.in-Some.word.now) l.invariant.ends c.in_err-node.ensures) in
+    subst (CompiledTo ws) (sym c.from_residual.ensures)
+    (λ few f s. stuck ws (length ws) l.nodes l.ends i t.low (λ j m u. l.invariant.good j (omega (arith, t.more)) u) miss f s.0 s.1)
+
+pub returns-in_err-node-clause-one : goal.returns-in_err-node-clause-one
+returns-in_err-node-clause-one c = one_formula c.args.words.now
+
+pub returns-then-ends-len-clause-table : goal.returns-then-ends-len-clause-table
+returns-then-ends-len-clause-table c =
+    let g = c.loop-i.invariant.good 0 (omega (arith, c.in-None.ensures.steps.1.0)) (omega arith) in
     let same : size g.form ≡ length c.args.words.now = omega (arith, g.ends_at, c.if-ends-len.true) in
-    record {
-      table = (omega arith, (g.form, (g.spelt, same), record { numbered = g.numbered; all = sym same }));
-      beyond = c.loop-i.invariant.3 ∙ drop-replicate (length c.args.words.now) 60 (Mark 0);
-      one = one_formula c.args.words.now;
-    }
+    (omega arith, (g.form, (g.spelt, same), record { numbered = g.numbered; all = sym same }))
 
-pub returns-then-words-eq0 : goal.returns-then-words-eq0
-returns-then-words-eq0 c = record {
-  table = λ few f s. ⊎_elim (λ e. omega (arith, e, s.1, size_pos f)) (λ h. omega (arith, h.1, few)) c.then-words-eq0.either;
-  beyond = tt;
-  one = one_formula c.args.words.now;
-}
+pub returns-then-ends-len-clause-beyond : goal.returns-then-ends-len-clause-beyond
+returns-then-ends-len-clause-beyond c = c.loop-i.invariant.blank ∙ drop-replicate (length c.args.words.now) 60 (Mark 0)
 
-pub returns-in-None : goal.returns-in-None
-returns-in-None c =
+pub returns-then-ends-len-clause-one : goal.returns-then-ends-len-clause-one
+returns-then-ends-len-clause-one c = one_formula c.args.words.now
+
+pub returns-else-ends-len-clause-table : goal.returns-else-ends-len-clause-table
+returns-else-ends-len-clause-table c few f s =
     let ws = c.args.words.now in
-    record {
-      table = λ few f s.
-          stuck ws (length ws) c.loop-i.nodes c.loop-i.ends (c.loop-i.i - 1) (omega arith) (λ k l u. c.loop-i.invariant.2 k (omega arith) u)
-          c.in-None.ensures f s.0 s.1;
-      beyond = tt;
-      one = one_formula ws;
-    }
+    let g = c.loop-i.invariant.good 0 (omega (arith, c.in-None.ensures.steps.1.0)) (omega arith) in
+    let same = same_size ws 0 f g.form s.0 g.spelt in
+    c.if-ends-len.false (omega (arith, g.ends_at, same, s.1))
 
-pub returns-else-ends-len : goal.returns-else-ends-len
-returns-else-ends-len c =
-    let ws = c.args.words.now in
-    record {
-      table = λ few f s.
-          let g = c.loop-i.invariant.2 0 (omega arith) (omega arith) in
-          let same = same_size ws 0 f g.form s.0 g.spelt in
-          c.if-ends-len.false (omega (arith, g.ends_at, same, s.1));
-      beyond = tt;
-      one = one_formula ws;
-    }
+pub returns-else-ends-len-clause-one : goal.returns-else-ends-len-clause-one
+returns-else-ends-len-clause-one c = one_formula c.args.words.now

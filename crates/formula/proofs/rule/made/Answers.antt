@@ -5,7 +5,6 @@ use Rattle.formula.specs.Words.{CompiledTo}
 use Rattle.formula.proofs.Made.{is_some, tabled}
 use Rattle.formula.proofs.Rows.{sound_from}
 use Rattle.formula.proofs.Stands.{watch_from}
-use Rattle.formula.proofs.Truths.{size_pos}
 use Rattle.formula.proofs.rule.made.Goals as goal
 
 -- a text at fault
@@ -32,8 +31,6 @@ invariant_of-result c =
     let x = c.unwrap-table.result in
     let tab = tabled t v c.in_ok-spelling.spelling legal read.2 c.in_ok-check.ensures c.compile.result (subst (λ ws. CompiledTo ws c.compile.result) c.as_slice.ensures.words c.compile.ensures.table) x c.unwrap-table.ensures legal.0 legal.1 legal.2 in
     record {
-      some = omega (arith, tab.all, size_pos legal.0);
-      few = omega (arith, tab.all, told.0);
       known = omega arith;
       sound = sound_from v x.len x.nodes legal.0 tab told.1;
     }

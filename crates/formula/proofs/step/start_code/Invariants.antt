@@ -5,4 +5,4 @@ use Rattle.formula.proofs.step.start_code.Given as goal
 
 -- the comparisons below i that are true
 abbrev pub invariant-loop-i : goal.invariant-loop-i
-invariant-loop-i l = l.code ≡ begun (starts_of l.formula) l.formula.nodes l.i
+invariant-loop-i l = l.code ≡ begun (starts_of l.formula) l.formula.table.nodes l.i
