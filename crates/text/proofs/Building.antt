@@ -1,6 +1,7 @@
 -- The steps of building a recording from the pieces of one.
 use Rattle.std.proofs.Common.{◌≡◌, ℕ, ◌+◌, ◌-◌, false, List, [], ◌∷◌, ◌++◌, length, take, drop, ℤ, Ok, Err, vec_items, codes, Option, Result, sym, refl, ap, ◌∙◌, subst, arith, length-append}
 use Rattle.std.proofs.lemmas.List.{drop_at, take_at}
+use Rattle.events.specs.declared.kind.Kind.{Kind}
 use Rattle.grammar.specs.Recording as grammar
 use Rattle.grammar.specs.Recording.{All, Formula, Legal, Piece, Proper, flat, formula, lines, pieces, values}
 use Rattle.grammar.specs.Recording.{opening, closing, blank, newline, word, small, wide}
@@ -31,7 +32,7 @@ values_on r = values r.starts (closing ∷ closing ∷ newline ∷ lines_on r)
 abbrev pub count_on : grammar.Recording → List Piece
 count_on r = blank ∷ small r.threads ∷ blank ∷ opening ∷ values_on r
 
-pub opened : (r : grammar.Recording) (s e : Reader) (o : Option ℕ) → Proper r → s.text.now ≡ flat (pieces r) → s.at ≡ 0 → Named s e o → Stand (pieces r) e (count_on r)
+pub opened : (r : grammar.Recording) (s e : Reader) (o : Option Kind) → Proper r → s.text.now ≡ flat (pieces r) → s.at ≡ 0 → Named s e o → Stand (pieces r) e (count_on r)
 opened r s e o p text at named =
     (named (pieces r) (pieces r) (count_on r) (codes "open")
     (record { done = []; split = refl; fits = tt; text = text; at = at; neat = neat_pieces r p }) refl).1

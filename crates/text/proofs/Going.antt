@@ -3,14 +3,12 @@ use Rattle.std.proofs.Common.{◌≡◌, ℕ, suc, ◌+◌, ◌-◌, ◌<◌, �
 use Rattle.std.proofs.lemmas.List.{take_all, take_more, at_drop_more, drop-drop}
 use Rattle.std.proofs.lemmas.Bool.Decides.{nat_tests}
 use Rattle.text.specs.declared.place.Place.{Place}
-use Rattle.text.specs.declared.token.Kind.{Kind}
-use Rattle.text.specs.declared.token.Kind.TheVariants.{Letter, Digit}
 use Rattle.text.specs.declared.token.Sort.{Sort}
 use Rattle.text.specs.declared.token.Sort.TheVariants.{Word, Number}
 use Rattle.text.specs.declared.token.Token.{Token}
 use Rattle.text.specs.declared.token.Token.TheVariants as token
 use Rattle.text.specs.Places.{start, past, behind_all, byte_place}
-use Rattle.text.specs.Tokens.{Lexeme, Next, begins, lexeme, lexeme_as, is_of_kind, placed, run, seen, size, skip, sort_of}
+use Rattle.text.specs.Tokens.{Lexeme, Next, begins, lexeme, lexeme_as, is_digit, is_letter, placed, run, seen, size, skip, sort_of}
 
 behind_push : (p : Place) (cs : List ℕ) (c : ℕ) → behind_all p (cs ++ c ∷ []) ≡ past (behind_all p cs) c
 behind_push p [] c = refl
@@ -44,26 +42,26 @@ pub column_le : (t : List ℕ) (k : ℕ) → (byte_place t k).column ≤ k + 1
 column_le t k = omega (arith, behind_column start (take k t), length-take k t)
 
 -- a byte of the kind is one more of the run behind it
-run-cons : (k : Kind) (c : ℕ) (cs : List ℕ) → is_of_kind k c ≡ true → run k (c ∷ cs) ≡ suc (run k cs)
+run-cons : (k : ℕ → Bool) (c : ℕ) (cs : List ℕ) → k c ≡ true → run k (c ∷ cs) ≡ suc (run k cs)
 run-cons k c cs e = ap (λ (b : Bool). cond b (suc (run k cs)) 0) e
 
-none_begins : (k : Kind) (bs : List ℕ) → begins k bs ≡ false → run k bs ≡ 0
+none_begins : (k : ℕ → Bool) (bs : List ℕ) → begins k bs ≡ false → run k bs ≡ 0
 none_begins k [] e = refl
 none_begins k (c ∷ cs) e = ap (λ (b : Bool). cond b (suc (run k cs)) 0) e
 
-pub run_more : (k : Kind) (t : List ℕ) (i : ℕ) → i < length t → begins k (drop i t) ≡ true → run k (drop i t) ≡ run k (drop (i + 1) t) + 1
+pub run_more : (k : ℕ → Bool) (t : List ℕ) (i : ℕ) → i < length t → begins k (drop i t) ≡ true → run k (drop i t) ≡ run k (drop (i + 1) t) + 1
 run_more k t i h e =
     at_drop_more (run k) t i 0 h ∙ run-cons k (get_or t i 0) (drop (i + 1) t) (sym (at_drop_more (begins k) t i 0 h) ∙ e) ∙ omega arith
 
-pub run_none : (k : Kind) (bs : List ℕ) → begins k bs ≡ false → run k bs ≡ 0
+pub run_none : (k : ℕ → Bool) (bs : List ℕ) → begins k bs ≡ false → run k bs ≡ 0
 run_none = none_begins
 
 -- a byte that begins something is there
-begins_some : (k : Kind) (bs : List ℕ) → begins k bs ≡ true → 0 < length bs
+begins_some : (k : ℕ → Bool) (bs : List ℕ) → begins k bs ≡ true → 0 < length bs
 begins_some k [] e = let z : ◌≡◌ {A = ℕ} 0 1 = cc in omega arith
 begins_some k (c ∷ cs) e = omega arith
 
-pub begins_within : (k : Kind) (t : List ℕ) (i : ℕ) → begins k (drop i t) ≡ true → i < length t
+pub begins_within : (k : ℕ → Bool) (t : List ℕ) (i : ℕ) → begins k (drop i t) ≡ true → i < length t
 begins_within k t i e = omega (arith, begins_some k (drop i t) e, length-drop i t)
 
 sort_some : (bs : List ℕ) (s : Sort) → sort_of bs ≡ Some s → 0 < length bs
@@ -77,12 +75,12 @@ one_or_none : (b : Bool) (r n : ℕ) → r ≤ n → cond b (suc r) 0 ≤ suc n
 one_or_none true r n h = omega arith
 one_or_none false r n h = omega arith
 
-run_le : (k : Kind) (bs : List ℕ) → run k bs ≤ length bs
+run_le : (k : ℕ → Bool) (bs : List ℕ) → run k bs ≤ length bs
 run_le k [] = omega arith
-run_le k (c ∷ cs) = one_or_none (is_of_kind k c) (run k cs) (length cs) (run_le k cs)
+run_le k (c ∷ cs) = one_or_none (k c) (run k cs) (length cs) (run_le k cs)
 
 -- a run behind the first byte, as a part of the text
-module _ (t : List ℕ) (b e : ℕ) (k : Kind) (here : b < length t) (end : e ≡ b + 1 + run k (drop (b + 1) t)) where
+module _ (t : List ℕ) (b e : ℕ) (k : ℕ → Bool) (here : b < length t) (end : e ≡ b + 1 + run k (drop (b + 1) t)) where
   behind_first : run k (drop (b + 1) t) ≡ run k (drop 1 (drop b t))
   behind_first = ap (run k) (sym (drop-drop 1 b t))
 
@@ -101,20 +99,20 @@ module _ (t was : List ℕ) (k b e : ℕ) (p : Place) (same : was ≡ t) (from :
   next_at : (r : Option Token) → seen r ≡ placed (lexeme (drop b was)) p → e ≡ b + size (lexeme (drop b was)) → Next t k r e
   next_at r told end = record { token = cc; end = cc }
 
-  pub next_word : (w : Bor (List ℕ)) → sort_of (drop b was) ≡ Some Word → e ≡ b + 1 + run Letter (drop (b + 1) was) → w.now ≡ take (e - b) (drop b was) → Next t k (Some (token.Word w p)) e
+  pub next_word : (w : Bor (List ℕ)) → sort_of (drop b was) ≡ Some Word → e ≡ b + 1 + run is_letter (drop (b + 1) was) → w.now ≡ take (e - b) (drop b was) → Next t k (Some (token.Word w p)) e
   next_word w s end is =
       let here = sort_within was b Word s in
       let l = as_sort Word (drop b was) s in
-      let x = is ∙ part_is was b e Letter here end in
-      let y = part_size was b e Letter here end in
+      let x = is ∙ part_is was b e is_letter here end in
+      let y = part_size was b e is_letter here end in
       next_at (Some (token.Word w p)) (cc) (y ∙ ap (λ (o : Option Lexeme). b + size o) (sym l))
 
-  pub next_number : (w : Bor (List ℕ)) → sort_of (drop b was) ≡ Some Number → e ≡ b + 1 + run Digit (drop (b + 1) was) → w.now ≡ take (e - b) (drop b was) → Next t k (Some (token.Number w p)) e
+  pub next_number : (w : Bor (List ℕ)) → sort_of (drop b was) ≡ Some Number → e ≡ b + 1 + run is_digit (drop (b + 1) was) → w.now ≡ take (e - b) (drop b was) → Next t k (Some (token.Number w p)) e
   next_number w s end is =
       let here = sort_within was b Number s in
       let l = as_sort Number (drop b was) s in
-      let x = is ∙ part_is was b e Digit here end in
-      let y = part_size was b e Digit here end in
+      let x = is ∙ part_is was b e is_digit here end in
+      let y = part_size was b e is_digit here end in
       next_at (Some (token.Number w p)) (cc) (y ∙ ap (λ (o : Option Lexeme). b + size o) (sym l))
 
 -- past the end there is no other place

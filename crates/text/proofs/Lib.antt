@@ -1,5 +1,6 @@
 pub mod Going
 pub mod Numerals
+pub mod Words
 pub mod Meeting
 pub mod Taking
 pub mod Neatness

@@ -3,6 +3,8 @@ use Rattle.std.proofs.Common.{◌≡◌, ℕ, ◌<◌, Bool, List, [], ◌∷◌
 use Rattle.std.specs.Global.{Vec}
 use Rattle.std.specs.Fmt.{signed_decimal}
 use Rattle.std.proofs.lemmas.List.{append-nil}
+use Rattle.events.specs.Kinds.{kind_number}
+use Rattle.events.specs.declared.kind.Kind.{Kind}
 use Rattle.events.specs.declared.event.Action.{Action}
 use Rattle.grammar.specs.Recording.{All, Piece, TenDigits, Writable, flat, further, kind_words, lines, values}
 use Rattle.grammar.specs.Recording.{opening, closing, blank, newline, word, small, wide}
@@ -19,7 +21,7 @@ use Rattle.text.specs.declared.fault.ReadFault.TheVariants.{Text}
 use Rattle.text.specs.Standing.{Checked, Ended, LineEnd, ListTaken, Moved, Neat, Outside, Role, Roles, Stand, Taken, is_number, line_end, token_of, trim}
 use Rattle.text.proofs.Meeting.{Met, meet, meet_end, trim_token}
 use Rattle.text.proofs.Neatness.{kind_word, trim_further, trim_lines}
-use Rattle.text.proofs.Taking.{never_none, next_moved, token_moves, wide_taken}
+use Rattle.text.proofs.Taking.{never_none, next_moved, number_taken, token_moves}
 
 -- of the values zs, ws are read
 pub record ValuesLeft (whole : List Piece) (s : Reader) (rest : List Piece) (zs ws : List ℤ) : Type 0 where
@@ -53,7 +55,7 @@ some_left whole s e rest zs ws [] ps split stand next w at r told reads m =
     let n : ⊥ = omega arith in
     elim n [ ]
 some_left whole s e rest zs ws (z ∷ left) ps split stand next w at r told reads m =
-    record { value = z; left = left; split = split; taken = wide_taken (meet stand next m) w at r told reads }
+    record { value = z; left = left; split = split; taken = number_taken (meet stand next m) refl z w at r told (reads z) }
 
 pub value_next : {whole rest : List Piece} {s e : Reader} {zs ws : List ℤ} → ValuesLeft whole s rest zs ws → (w : List ℕ) (at : Place) (r : Result ℤ TextFault) → Some (w, at) ≡ number_in (ahead s.text.now s.at) → ((z : ℤ) → TenDigits z → w ≡ signed_decimal z → r ≡ wide_number z at) → Moved s e → ValueNext whole e rest zs ws r
 value_next {whole} {rest} {s} {e} {zs} {ws} v = some_left whole s e rest zs ws v.left v.ps v.split v.stand v.next
@@ -77,14 +79,15 @@ pub record ActionsLeft (whole : List Piece) (s : Reader) (rest : List Piece) (ac
   pub next : trim ps ≡ lines left (opening ∷ word (codes "rule") ∷ rest)
 
 -- what a verb is told to be, of the pieces that come next
-abbrev pub Named : Reader → Reader → Option ℕ → Type 0
+abbrev pub Named : Reader → Reader → Option Kind → Type 0
 Named s e r = (whole ps rest : List Piece) (w : List ℕ) → Stand whole s ps → trim ps ≡ opening ∷ word w ∷ rest → (r ≡ kind_in w) × Stand whole e rest
 
 no_action_lem : (whole : List Piece) (s e : Reader) (rest : List Piece) (left : List Action) (ps : List Piece) → All Writable left → Stand whole s ps → trim ps ≡ lines left (opening ∷ word (codes "rule") ∷ rest) → Named s e None → (left ≡ []) × Stand whole e rest
 no_action_lem whole s e rest [] ps w stand next named = (refl, (named whole ps rest (codes "rule") stand next).1)
 no_action_lem whole s e rest (a ∷ left) ps w stand next named =
     let told = (named whole ps (line_end a (lines left (opening ∷ word (codes "rule") ∷ rest))) (get_or kind_words a.kind []) stand next).0 in
-    let same = told ∙ kind_word a.kind w.0.kind in
+    let word = kind_word a.kind w.0.kind in
+    let same = told ∙ word.1 in
     let z : ◌≡◌ {A = ℕ} 0 1 = cc in
     let n : ⊥ = omega arith in
     elim n [ ]
@@ -95,7 +98,7 @@ actions_read {whole} {rest} {s} {e} {acts} {done} v named =
     (sym (v.split ∙ ap (λ (l : List Action). done ++ l) h.0 ∙ append-nil done), h.1)
 
 -- one more action, of which the kind is read
-pub record ActionNext (whole : List Piece) (e : Reader) (rest : List Piece) (acts done : List Action) (k : ℕ) : Type 0 where
+pub record ActionNext (whole : List Piece) (e : Reader) (rest : List Piece) (acts done : List Action) (k : Kind) : Type 0 where
   pub action : Action
   pub left : List Action
   pub split : acts ≡ done ++ action ∷ left
@@ -103,7 +106,7 @@ pub record ActionNext (whole : List Piece) (e : Reader) (rest : List Piece) (act
   pub stand : Stand whole e (line_end action (lines left (opening ∷ word (codes "rule") ∷ rest)))
   pub line : LineEnd k action (line_end action (lines left (opening ∷ word (codes "rule") ∷ rest))) (lines left (opening ∷ word (codes "rule") ∷ rest))
 
-an_action : (whole : List Piece) (s e : Reader) (rest : List Piece) (acts done left : List Action) (ps : List Piece) (k : ℕ) → acts ≡ done ++ left → All Writable left → Stand whole s ps → trim ps ≡ lines left (opening ∷ word (codes "rule") ∷ rest) → Named s e (Some k) → ActionNext whole e rest acts done k
+an_action : (whole : List Piece) (s e : Reader) (rest : List Piece) (acts done left : List Action) (ps : List Piece) (k : Kind) → acts ≡ done ++ left → All Writable left → Stand whole s ps → trim ps ≡ lines left (opening ∷ word (codes "rule") ∷ rest) → Named s e (Some k) → ActionNext whole e rest acts done k
 an_action whole s e rest acts done [] ps k split w stand next named =
     let told : Some k ≡ None = (named whole ps rest (codes "rule") stand next).0 in
     let z : ◌≡◌ {A = ℕ} 0 1 = cc in
@@ -111,14 +114,16 @@ an_action whole s e rest acts done [] ps k split w stand next named =
     elim n [ ]
 an_action whole s e rest acts done (a ∷ left) ps k split w stand next named =
     let told = named whole ps (line_end a (lines left (opening ∷ word (codes "rule") ∷ rest))) (get_or kind_words a.kind []) stand next in
-    let same = told.0 ∙ kind_word a.kind w.0.kind in
-    let kind : k ≡ a.kind = cc in
+    let word = kind_word a.kind w.0.kind in
+    let same = told.0 ∙ word.1 in
+    let is : k ≡ word.0 = cc in
+    let kind : kind_number k ≡ a.kind = ap kind_number is ∙ word.2 in
     record { action = a; left = left; split = split; writable = w.1; stand = told.1; line = record { pieces = refl; kind = kind; lock = w.0.lock } }
 
-pub action_next : {whole rest : List Piece} {s e : Reader} {acts done : List Action} (k : ℕ) → ActionsLeft whole s rest acts done → Named s e (Some k) → ActionNext whole e rest acts done k
+pub action_next : {whole rest : List Piece} {s e : Reader} {acts done : List Action} (k : Kind) → ActionsLeft whole s rest acts done → Named s e (Some k) → ActionNext whole e rest acts done k
 action_next {whole} {rest} {s} {e} {acts} {done} k v = an_action whole s e rest acts done v.left v.ps k v.split v.writable v.stand v.next
 
-pub actions_more : {whole rest : List Piece} {m e : Reader} {acts done : List Action} {k : ℕ} (us : List Action) (v : Action) (n : ActionNext whole m rest acts done k) → Taken whole e n.action (newline ∷ lines n.left (opening ∷ word (codes "rule") ∷ rest)) (Ok v) → us ≡ done ++ v ∷ [] → ActionsLeft whole e rest acts us
+pub actions_more : {whole rest : List Piece} {m e : Reader} {acts done : List Action} {k : Kind} (us : List Action) (v : Action) (n : ActionNext whole m rest acts done k) → Taken whole e n.action (newline ∷ lines n.left (opening ∷ word (codes "rule") ∷ rest)) (Ok v) → us ≡ done ++ v ∷ [] → ActionsLeft whole e rest acts us
 actions_more {whole} {rest} {m} {e} {acts} {done} {k} us v n taken is = record {
   left = n.left;
   split = n.split ∙ sym (append_assoc done (n.action ∷ []) n.left) ∙ ap (λ (x : Action). (done ++ x ∷ []) ++ n.left) (sym taken.0) ∙ ap (λ (l : List Action). l ++ n.left) (sym is);

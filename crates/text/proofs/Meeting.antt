@@ -10,13 +10,11 @@ use Rattle.std.proofs.lemmas.Bool.Decides.{nat_tests}
 use Rattle.grammar.specs.Recording.{All, Piece, bytes, flat}
 use Rattle.grammar.specs.Recording.{opening, closing, blank, newline, word, small, wide}
 use Rattle.text.specs.declared.reader.Reader.{Reader}
-use Rattle.text.specs.declared.token.Kind.{Kind}
-use Rattle.text.specs.declared.token.Kind.TheVariants.{Blank, Letter, Digit}
 use Rattle.text.specs.declared.token.Sort.{Sort}
 use Rattle.text.specs.declared.token.Sort.TheVariants.{Word, Number}
 use Rattle.text.specs.Places.{byte_place}
 use Rattle.text.specs.Ranges.{FirstOut, InRange}
-use Rattle.text.specs.Tokens.{Lexeme, ahead, begins, left_bracket, letters, lexeme, lexeme_as, numeral, is_of_kind, placed, right_bracket, run, size, skip, sort_of_byte}
+use Rattle.text.specs.Tokens.{Lexeme, ahead, begins, left_bracket, letters, lexeme, lexeme_as, numeral, is_blank, is_digit, is_letter, placed, right_bracket, run, size, skip, sort_of_byte}
 use Rattle.text.specs.Standing.{Moved, Neat, Stand, Stops, token_of, trim}
 use Rattle.text.proofs.Numerals.{small_range}
 
@@ -34,63 +32,63 @@ cond_suc : (b : Bool) (r n : ℕ) → cond b (suc r) 0 ≡ suc n → (b ≡ true
 cond_suc true r n e = (refl, omega arith)
 cond_suc false r n e = let z : ⊥ = omega arith in elim z [ ]
 
-run_stop : (k : Kind) (w rest : List ℕ) → run k w ≡ length w → run k rest ≡ 0 → run k (w ++ rest) ≡ length w
+run_stop : (k : ℕ → Bool) (w rest : List ℕ) → run k w ≡ length w → run k rest ≡ 0 → run k (w ++ rest) ≡ length w
 run_stop k [] rest all stop = stop
 run_stop k (c ∷ cs) rest all stop =
-    let h = cond_suc (is_of_kind k c) (run k cs) (length cs) all in
+    let h = cond_suc (k c) (run k cs) (length cs) all in
     ap (λ (b : Bool). cond b (suc (run k (cs ++ rest))) 0) h.0 ∙ ap suc (run_stop k cs rest h.1 stop)
 
-letter_sort : (c : ℕ) (d : Bool) → is_of_kind Letter c ≡ true → sort_of_byte c d ≡ Some Word
+letter_sort : (c : ℕ) (d : Bool) → is_letter c ≡ true → sort_of_byte c d ≡ Some Word
 letter_sort c d e = grind (arith, nat_tests)
 
-digit_sort : (c : ℕ) (d : Bool) → is_of_kind Digit c ≡ true → sort_of_byte c d ≡ Some Number
+digit_sort : (c : ℕ) (d : Bool) → is_digit c ≡ true → sort_of_byte c d ≡ Some Number
 digit_sort c d e = grind (arith, nat_tests)
 
-letter_not_blank : (c : ℕ) → is_of_kind Letter c ≡ true → is_of_kind Blank c ≡ false
+letter_not_blank : (c : ℕ) → is_letter c ≡ true → is_blank c ≡ false
 letter_not_blank c e = grind (arith, nat_tests)
 
-digit_not_blank : (c : ℕ) → is_of_kind Digit c ≡ true → is_of_kind Blank c ≡ false
+digit_not_blank : (c : ℕ) → is_digit c ≡ true → is_blank c ≡ false
 digit_not_blank c e = grind (arith, nat_tests)
 
-in_digit : (c : ℕ) → IsInRange 48 57 c → is_of_kind Digit c ≡ true
+in_digit : (c : ℕ) → IsInRange 48 57 c → is_digit c ≡ true
 in_digit c i = grind (arith, nat_tests)
 
 -- a word, digits, and digits behind a minus
-word_lexeme : (w rest : List ℕ) → 0 < length w → run Letter w ≡ length w → run Letter rest ≡ 0 → lexeme (w ++ rest) ≡ Some (letters w)
+word_lexeme : (w rest : List ℕ) → 0 < length w → run is_letter w ≡ length w → run is_letter rest ≡ 0 → lexeme (w ++ rest) ≡ Some (letters w)
 word_lexeme [] rest some all stop = let z : ⊥ = omega arith in elim z [ ]
 word_lexeme (c ∷ cs) rest some all stop =
-    let h = cond_suc (is_of_kind Letter c) (run Letter cs) (length cs) all in
-    ap (λ (o : Option Sort). lexeme_as o (c ∷ cs ++ rest)) (letter_sort c (begins Digit (cs ++ rest)) h.0)
-    ∙ ap (λ (n : ℕ). Some (letters (take (suc n) (c ∷ cs ++ rest)))) (run_stop Letter cs rest h.1 stop)
+    let h = cond_suc (is_letter c) (run is_letter cs) (length cs) all in
+    ap (λ (o : Option Sort). lexeme_as o (c ∷ cs ++ rest)) (letter_sort c (begins is_digit (cs ++ rest)) h.0)
+    ∙ ap (λ (n : ℕ). Some (letters (take (suc n) (c ∷ cs ++ rest)))) (run_stop is_letter cs rest h.1 stop)
     ∙ ap (λ (x : List ℕ). Some (letters (c ∷ x))) (take_at cs rest (length cs) refl)
 
-digits_lexeme : (w rest : List ℕ) → 0 < length w → run Digit w ≡ length w → run Digit rest ≡ 0 → lexeme (w ++ rest) ≡ Some (numeral w)
+digits_lexeme : (w rest : List ℕ) → 0 < length w → run is_digit w ≡ length w → run is_digit rest ≡ 0 → lexeme (w ++ rest) ≡ Some (numeral w)
 digits_lexeme [] rest some all stop = let z : ⊥ = omega arith in elim z [ ]
 digits_lexeme (c ∷ cs) rest some all stop =
-    let h = cond_suc (is_of_kind Digit c) (run Digit cs) (length cs) all in
-    ap (λ (o : Option Sort). lexeme_as o (c ∷ cs ++ rest)) (digit_sort c (begins Digit (cs ++ rest)) h.0)
-    ∙ ap (λ (n : ℕ). Some (numeral (take (suc n) (c ∷ cs ++ rest)))) (run_stop Digit cs rest h.1 stop)
+    let h = cond_suc (is_digit c) (run is_digit cs) (length cs) all in
+    ap (λ (o : Option Sort). lexeme_as o (c ∷ cs ++ rest)) (digit_sort c (begins is_digit (cs ++ rest)) h.0)
+    ∙ ap (λ (n : ℕ). Some (numeral (take (suc n) (c ∷ cs ++ rest)))) (run_stop is_digit cs rest h.1 stop)
     ∙ ap (λ (x : List ℕ). Some (numeral (c ∷ x))) (take_at cs rest (length cs) refl)
 
-begins_front : (w rest : List ℕ) → 0 < length w → run Digit w ≡ length w → begins Digit (w ++ rest) ≡ true
+begins_front : (w rest : List ℕ) → 0 < length w → run is_digit w ≡ length w → begins is_digit (w ++ rest) ≡ true
 begins_front [] rest some all = let z : ⊥ = omega arith in elim z [ ]
-begins_front (c ∷ cs) rest some all = (cond_suc (is_of_kind Digit c) (run Digit cs) (length cs) all).0
+begins_front (c ∷ cs) rest some all = (cond_suc (is_digit c) (run is_digit cs) (length cs) all).0
 
-minus_lexeme : (w rest : List ℕ) → 0 < length w → run Digit w ≡ length w → run Digit rest ≡ 0 → lexeme (45 ∷ w ++ rest) ≡ Some (numeral (45 ∷ w))
+minus_lexeme : (w rest : List ℕ) → 0 < length w → run is_digit w ≡ length w → run is_digit rest ≡ 0 → lexeme (45 ∷ w ++ rest) ≡ Some (numeral (45 ∷ w))
 minus_lexeme w rest some all stop =
     ap (λ (b : Bool). lexeme_as (sort_of_byte 45 b) (45 ∷ w ++ rest)) (begins_front w rest some all)
-    ∙ ap (λ (n : ℕ). Some (numeral (take (suc n) (45 ∷ w ++ rest)))) (run_stop Digit w rest all stop)
+    ∙ ap (λ (n : ℕ). Some (numeral (take (suc n) (45 ∷ w ++ rest)))) (run_stop is_digit w rest all stop)
     ∙ ap (λ (x : List ℕ). Some (numeral (45 ∷ x))) (take_at w rest (length w) refl)
 
-digits-run : (ds : List ℕ) → AllDigits 10 ds → run Digit ds ≡ length ds
+digits-run : (ds : List ℕ) → AllDigits 10 ds → run is_digit ds ≡ length ds
 digits-run [] d = refl
 digits-run (c ∷ cs) d =
-    ap (λ (b : Bool). cond b (suc (run Digit cs)) 0) (in_digit c (digit_from_value c d.0)) ∙ ap suc (digits-run cs d.1)
+    ap (λ (b : Bool). cond b (suc (run is_digit cs)) 0) (in_digit c (digit_from_value c d.0)) ∙ ap suc (digits-run cs d.1)
 
-decimal_solid : (n : ℕ) → n < 2 ^ 64 → (0 < length (decimal n)) × (run Digit (decimal n) ≡ length (decimal n))
+decimal_solid : (n : ℕ) → n < 2 ^ 64 → (0 < length (decimal n)) × (run is_digit (decimal n) ≡ length (decimal n))
 decimal_solid n h = let d = decimal_is_IsNumeral n h in (d.0.0, digits-run (decimal n) d.0.1)
 
-no_letter : (ps : List Piece) → Stops ps → run Letter (flat ps) ≡ 0
+no_letter : (ps : List Piece) → Stops ps → run is_letter (flat ps) ≡ 0
 no_letter [] s = refl
 no_letter (opening ∷ ps) s = refl
 no_letter (closing ∷ ps) s = refl
@@ -100,7 +98,7 @@ no_letter (word w ∷ ps) s = elim s [ ]
 no_letter (small n ∷ ps) s = elim s [ ]
 no_letter (wide z ∷ ps) s = elim s [ ]
 
-no_digit : (ps : List Piece) → Stops ps → run Digit (flat ps) ≡ 0
+no_digit : (ps : List Piece) → Stops ps → run is_digit (flat ps) ≡ 0
 no_digit [] s = refl
 no_digit (opening ∷ ps) s = refl
 no_digit (closing ∷ ps) s = refl
@@ -166,23 +164,23 @@ gap_fits (word w ∷ ps) = tt
 gap_fits (small n ∷ ps) = tt
 gap_fits (wide z ∷ ps) = tt
 
-not_blank : (k : Kind) (w rest : List ℕ) → ((c : ℕ) → is_of_kind k c ≡ true → is_of_kind Blank c ≡ false) → 0 < length w → run k w ≡ length w → run Blank (w ++ rest) ≡ 0
+not_blank : (k : ℕ → Bool) (w rest : List ℕ) → ((c : ℕ) → k c ≡ true → is_blank c ≡ false) → 0 < length w → run k w ≡ length w → run is_blank (w ++ rest) ≡ 0
 not_blank k [] rest apart some all = let z : ⊥ = omega arith in elim z [ ]
 not_blank k (c ∷ cs) rest apart some all =
-    ap (λ (b : Bool). cond b (suc (run Blank (cs ++ rest))) 0) (apart c (cond_suc (is_of_kind k c) (run k cs) (length cs) all).0)
+    ap (λ (b : Bool). cond b (suc (run is_blank (cs ++ rest))) 0) (apart c (cond_suc (k c) (run k cs) (length cs) all).0)
 
-gap_run : (ps : List Piece) → Neat ps → run Blank (flat ps) ≡ length (flat (gap ps))
+gap_run : (ps : List Piece) → Neat ps → run is_blank (flat ps) ≡ length (flat (gap ps))
 unfolding gap
 gap_run [] n = refl
 gap_run (blank ∷ ps) n = ap suc (gap_run ps n)
 gap_run (newline ∷ ps) n = ap suc (gap_run ps n)
 gap_run (opening ∷ ps) n = refl
 gap_run (closing ∷ ps) n = refl
-gap_run (word w ∷ ps) n = not_blank Letter w (flat ps) letter_not_blank n.0 n.1
+gap_run (word w ∷ ps) n = not_blank is_letter w (flat ps) letter_not_blank n.0 n.1
 gap_run (small k ∷ ps) n =
-    let d = decimal_solid k (small_range k n.0) in not_blank Digit (decimal k) (flat ps) digit_not_blank d.0 d.1
+    let d = decimal_solid k (small_range k n.0) in not_blank is_digit (decimal k) (flat ps) digit_not_blank d.0 d.1
 gap_run (wide (pos k) ∷ ps) n =
-    let d = decimal_solid k (small_range k n.0) in not_blank Digit (decimal k) (flat ps) digit_not_blank d.0 d.1
+    let d = decimal_solid k (small_range k n.0) in not_blank is_digit (decimal k) (flat ps) digit_not_blank d.0 d.1
 gap_run (wide (negsuc k) ∷ ps) n = refl
 
 trim_neat : (ps : List Piece) → Neat ps → Neat (trim ps)
@@ -231,7 +229,7 @@ after_gap whole s ps st =
     let split : whole ≡ front ++ trim ps = st.split ∙ ap (λ (x : List Piece). done ++ x) (gap_trim ps) ∙ sym (append_assoc done (gap ps) (trim ps)) in
     let text : t ≡ flat done ++ flat ps = st.text ∙ ap flat st.split ∙ flat_append done ps in
     let rest : drop s.at t ≡ flat ps = ap (drop s.at) text ∙ drop_at (flat done) (flat ps) s.at (sym st.at) in
-    let blanks : run Blank (drop s.at t) ≡ length (flat (gap ps)) = ap (run Blank) rest ∙ gap_run ps st.neat in
+    let blanks : run is_blank (drop s.at t) ≡ length (flat (gap ps)) = ap (run is_blank) rest ∙ gap_run ps st.neat in
     let long : length (flat front) ≡ length (flat done) + length (flat (gap ps)) = ap length (flat_append done (gap ps)) ∙ length-append (flat done) (flat (gap ps)) in
     let skips : skip t s.at ≡ length (flat front) = omega (arith, blanks, long, st.at) in
     let whole-text : t ≡ flat front ++ flat (trim ps) = st.text ∙ ap flat split ∙ flat_append front (trim ps) in

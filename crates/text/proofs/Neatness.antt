@@ -1,23 +1,25 @@
 -- The pieces of a recording that can be written are neat, and its rule's numbers have their roles.
 use Rattle.std.proofs.Common.{◌≡◌, ℕ, zero, suc, ◌<◌, ◌≤◌, Bool, false, List, [], ◌∷◌, ◌++◌, length, get_or, ℤ, Some, codes, sym, refl, ap, ◌∙◌, append_assoc, arith}
+use Rattle.events.specs.Kinds.{kind_number}
+use Rattle.events.specs.declared.kind.Kind.{Kind}
+use Rattle.events.specs.declared.kind.Kind.TheVariants.{Internal, Read, Write, Acquire, Release}
 use Rattle.events.specs.declared.event.Action.{Action}
 use Rattle.grammar.specs.Recording as grammar
 use Rattle.grammar.specs.Recording.{All, Formula, Nests, Piece, Proper, TenDigits, Writable, bytes, comparing, ending, flat, formula, further, kind_words, line, lines, naming, pieces, values}
 use Rattle.grammar.specs.Recording.{opening, closing, blank, newline, word, small, wide, eq, lt, gt, mark, by, neg, before, once, always, and, or, implies, since}
-use Rattle.text.specs.declared.token.Kind.TheVariants.{Letter}
-use Rattle.text.specs.Tokens.{kind_in, run}
+use Rattle.text.specs.Tokens.{is_letter, kind_in, run}
 use Rattle.text.specs.Standing.{Neat, Roles, Stops, trim}
 
 -- the kinds' words
-pub kind_word : (k : ℕ) → k ≤ 4 → kind_in (get_or kind_words k []) ≡ Some k
-kind_word zero h = refl
-kind_word (suc zero) h = refl
-kind_word (suc (suc zero)) h = refl
-kind_word (suc (suc (suc zero))) h = refl
-kind_word (suc (suc (suc (suc zero)))) h = refl
+pub kind_word : (k : ℕ) → k ≤ 4 → (d : Kind) × (kind_in (get_or kind_words k []) ≡ Some d) × (kind_number d ≡ k)
+kind_word zero h = (Internal, refl, refl)
+kind_word (suc zero) h = (Read, refl, refl)
+kind_word (suc (suc zero)) h = (Write, refl, refl)
+kind_word (suc (suc (suc zero))) h = (Acquire, refl, refl)
+kind_word (suc (suc (suc (suc zero)))) h = (Release, refl, refl)
 kind_word (suc (suc (suc (suc (suc k))))) h = let z : ⊥ = omega arith in elim z [ ]
 
-kind_letters : (k : ℕ) → k ≤ 4 → (0 < length (get_or kind_words k [])) × (run Letter (get_or kind_words k []) ≡ length (get_or kind_words k []))
+kind_letters : (k : ℕ) → k ≤ 4 → (0 < length (get_or kind_words k [])) × (run is_letter (get_or kind_words k []) ≡ length (get_or kind_words k []))
 kind_letters zero h = (omega arith, refl)
 kind_letters (suc zero) h = (omega arith, refl)
 kind_letters (suc (suc zero)) h = (omega arith, refl)

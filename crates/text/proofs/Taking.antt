@@ -1,11 +1,11 @@
 -- What is read of the next token.
-use Rattle.std.proofs.Common.{◌≡◌, ℕ, zero, suc, ◌^◌, ◌<◌, ◌≤◌, Bool, true, false, ltb, leb, List, [], ◌∷◌, drop, ℤ, Some, None, Err, decimal, Option, Result, sym, refl, ap, ◌∙◌, subst, arith}
+use Rattle.std.proofs.Common.{◌≡◌, ℕ, zero, suc, ◌^◌, ◌<◌, ◌≤◌, Bool, true, false, ltb, leb, List, [], ◌∷◌, drop, ℤ, Some, None, Err, Option, Result, sym, refl, ap, ◌∙◌, subst, arith}
 use lib.Signed.{mag}
-use Rattle.std.specs.Fmt.{signed_decimal}
 use Rattle.std.proofs.lemmas.Bool.Decides.{nat_tests}
+use Rattle.events.specs.declared.kind.Kind.{Kind}
 use Rattle.events.specs.declared.event.Action.{Action}
-use Rattle.grammar.specs.Recording.{Piece, TenDigits, ending, flat}
-use Rattle.grammar.specs.Recording.{blank, word, small, wide}
+use Rattle.grammar.specs.Recording.{Piece, bytes, ending, flat}
+use Rattle.grammar.specs.Recording.{opening, closing, blank, newline, word, small, wide}
 use Rattle.text.specs.declared.place.Place.{Place}
 use Rattle.text.specs.declared.reader.Reader.{Reader}
 use Rattle.text.specs.declared.fault.TextFault.{TextFault}
@@ -13,9 +13,9 @@ use Rattle.text.specs.declared.token.Token.{Token}
 use Rattle.text.specs.declared.token.Sort.{Sort}
 use Rattle.text.specs.declared.token.Sort.TheVariants as sort
 use Rattle.text.specs.Places.{byte_place}
-use Rattle.text.specs.Ranges.{InRange, if_fits, small_number, wide_number}
+use Rattle.text.specs.Ranges.{InRange, Short, fitting, if_fits}
 use Rattle.text.specs.Tokens.{Lexeme, ahead, lexeme, lexeme_as, Next, kind_in, number_in, numeral, passed, placed, size, skip, sort_of, word_in}
-use Rattle.text.specs.Standing.{Moved, Onward, Outside, Taken, token_of}
+use Rattle.text.specs.Standing.{Moved, Onward, Outside, Taken, is_number, token_of}
 use Rattle.text.proofs.Meeting.{Met}
 
 -- a token that comes next is passed
@@ -50,7 +50,7 @@ module _ {whole rest : List Piece} {s e : Reader} {w : List ℕ} (m : Met whole 
   pub kind_none : (None ≡ word_in (ahead s.text.now s.at)) → ⊥
   kind_none e = let same = e ∙ word_met in let z : ◌≡◌ {A = ℕ} 0 1 = cc in omega arith
 
-  pub kind_some : (v : List ℕ) (r : Option ℕ) → Some v ≡ word_in (ahead s.text.now s.at) → r ≡ kind_in v → r ≡ kind_in w
+  pub kind_some : (v : List ℕ) (r : Option Kind) → Some v ≡ word_in (ahead s.text.now s.at) → r ≡ kind_in v → r ≡ kind_in w
   kind_some v r e is = let same = e ∙ word_met in let vw : v ≡ w = cc in is ∙ ap kind_in vw
 
 -- a word that comes next is passed
@@ -107,15 +107,31 @@ module _ {whole rest : List Piece} {s e : Reader} {p : Piece} (m : Met whole s p
       let pair : (w, at) ≡ (d, byte_place (flat whole) m.from) = cc in
       (ap (λ (x : List ℕ × Place). x.0) pair, ap (λ (x : List ℕ × Place). x.1) pair)
 
-pub small_taken : {whole rest : List Piece} {s e : Reader} {n : ℕ} (m : Met whole s (small n) rest e) (w : List ℕ) (at : Place) (r : Result ℕ TextFault) → Some (w, at) ≡ number_in (ahead s.text.now s.at) → ((n : ℕ) → n < 10 ^ 10 → w ≡ decimal n → r ≡ small_number n at) → Taken whole e n rest r
-small_taken {whole} {rest} {s} {e} {n} m w at r told reads =
-    let h = handed_met m (decimal n) refl w at told in
-    taken_by m (leb n 255) n r (reads n m.neat.0 h.0 ∙ ap (small_number n) h.1) (λ y. grind (arith, nat_tests)) (λ n fits. grind (arith, nat_tests))
+numeral_of : (p : Piece) → is_number p ≡ true → token_of p ≡ Some (numeral (bytes p))
+numeral_of (small n) e = refl
+numeral_of (wide z) e = refl
+numeral_of opening e = let z : ◌≡◌ {A = ℕ} 0 1 = cc in let n : ⊥ = omega arith in elim n [ ]
+numeral_of closing e = let z : ◌≡◌ {A = ℕ} 0 1 = cc in let n : ⊥ = omega arith in elim n [ ]
+numeral_of blank e = let z : ◌≡◌ {A = ℕ} 0 1 = cc in let n : ⊥ = omega arith in elim n [ ]
+numeral_of newline e = let z : ◌≡◌ {A = ℕ} 0 1 = cc in let n : ⊥ = omega arith in elim n [ ]
+numeral_of (word w) e = let z : ◌≡◌ {A = ℕ} 0 1 = cc in let n : ⊥ = omega arith in elim n [ ]
 
-pub wide_taken : {whole rest : List Piece} {s e : Reader} {z : ℤ} (m : Met whole s (wide z) rest e) (w : List ℕ) (at : Place) (r : Result ℤ TextFault) → Some (w, at) ≡ number_in (ahead s.text.now s.at) → ((z : ℤ) → TenDigits z → w ≡ signed_decimal z → r ≡ wide_number z at) → Taken whole e z rest r
-wide_taken {whole} {rest} {s} {e} {z} m w at r told reads =
-    let h = handed_met m (signed_decimal z) refl w at told in
-    taken_by m (ltb (mag z) (2 ^ 31)) z r (reads z m.neat.0 h.0 ∙ ap (wide_number z) h.1) (λ y. grind (arith, nat_tests)) (λ n fits. grind (arith, nat_tests))
+fitting_taken : {A : Type 0} {whole rest : List Piece} {s e : Reader} (p : Piece) (m : Met whole s p rest e) (x : A) (r : Result A TextFault) → is_number p ≡ true → (Short p → r ≡ fitting p x (byte_place (flat whole) m.from)) → Taken whole e x rest r
+fitting_taken opening m x r is reads = let z : ◌≡◌ {A = ℕ} 0 1 = cc in let n : ⊥ = omega arith in elim n [ ]
+fitting_taken closing m x r is reads = let z : ◌≡◌ {A = ℕ} 0 1 = cc in let n : ⊥ = omega arith in elim n [ ]
+fitting_taken blank m x r is reads = let z : ◌≡◌ {A = ℕ} 0 1 = cc in let n : ⊥ = omega arith in elim n [ ]
+fitting_taken newline m x r is reads = let z : ◌≡◌ {A = ℕ} 0 1 = cc in let n : ⊥ = omega arith in elim n [ ]
+fitting_taken (word w) m x r is reads = let z : ◌≡◌ {A = ℕ} 0 1 = cc in let n : ⊥ = omega arith in elim n [ ]
+fitting_taken (small n) m x r is reads = taken_by m (leb n 255) x r (reads m.neat.0) (λ y. grind (arith, nat_tests)) (λ n fits. grind (arith, nat_tests))
+fitting_taken (wide z) m x r is reads = taken_by m (ltb (mag z) (2 ^ 31)) x r (reads m.neat.0) (λ y. grind (arith, nat_tests)) (λ n fits. grind (arith, nat_tests))
+
+pub number_taken : {A : Type 0} {whole rest : List Piece} {s e : Reader} {p : Piece} (m : Met whole s p rest e) → is_number p ≡ true → (x : A) (w : List ℕ) (at : Place) (r : Result A TextFault) → Some (w, at) ≡ number_in (ahead s.text.now s.at) → (Short p → w ≡ bytes p → r ≡ fitting p x at) → Taken whole e x rest r
+number_taken {A} {whole} {rest} {s} {e} {p} m is x w at r told reads =
+    let h = handed_met m (bytes p) (numeral_of p is) w at told in
+    fitting_taken p m x r is (λ short. reads short h.0 ∙ ap (fitting p x) h.1)
+
+pub number_there : {whole rest : List Piece} {s e : Reader} {p : Piece} (m : Met whole s p rest e) → is_number p ≡ true → None ≡ number_in (ahead s.text.now s.at) → ⊥
+number_there {whole} {rest} {s} {e} {p} m is told = never_none m (bytes p) (numeral_of p is) told
 
 -- the exit of a `?`
 pub outside_err : {A : Type 0} (whole rest : List Piece) (s : Reader) (x : A) {r : Result A TextFault} {f y : TextFault} → r ≡ Err y → y ≡ f → Outside whole f → Taken whole s x rest r

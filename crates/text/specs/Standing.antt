@@ -2,6 +2,8 @@
 use Rattle.std.specs.Prelude.{◌≡◌, ℕ, ◌^◌, ◌<◌, ◌≤◌, Bool, true, false, List, [], ◌∷◌, ◌++◌, length, pos, Some, None, Ok, Err, vec_items, decimal, Option, Result}
 use Rattle.std.specs.Global.{Vec}
 use Rattle.std.specs.Fmt.{signed_decimal}
+use Rattle.events.specs.Kinds.{kind_number}
+use Rattle.events.specs.declared.kind.Kind.{Kind}
 use Rattle.events.specs.declared.event.Action.{Action}
 use Rattle.grammar.specs.Recording.{All, Piece, TenDigits, ending, flat}
 use Rattle.grammar.specs.Recording.{opening, closing, blank, newline, word, small, wide}
@@ -11,10 +13,9 @@ use Rattle.text.specs.declared.fault.TextFault.TheVariants.{OutOfRange}
 use Rattle.text.specs.declared.fault.ReadFault.{ReadFault}
 use Rattle.text.specs.declared.fault.ReadFault.TheVariants.{Text, Memory}
 use Rattle.text.specs.declared.reader.Reader.{Reader}
-use Rattle.text.specs.declared.token.Kind.TheVariants.{Letter}
 use Rattle.text.specs.Places.{byte_place}
 use Rattle.text.specs.Ranges.{FirstOut, InRange}
-use Rattle.text.specs.Tokens.{Lexeme, left_bracket, right_bracket, letters, numeral, passed, run}
+use Rattle.text.specs.Tokens.{Lexeme, left_bracket, right_bracket, is_letter, letters, numeral, passed, run}
 
 -- no letter or digit comes next
 abbrev pub Stops : List Piece → Type 0
@@ -34,7 +35,7 @@ Neat (opening ∷ ps) = Neat ps
 Neat (closing ∷ ps) = Neat ps
 Neat (blank ∷ ps) = Neat ps
 Neat (newline ∷ ps) = Neat ps
-Neat (word w ∷ ps) = (0 < length w) × (run Letter w ≡ length w) × Stops ps × Neat ps
+Neat (word w ∷ ps) = (0 < length w) × (run is_letter w ≡ length w) × Stops ps × Neat ps
 Neat (small n ∷ ps) = (n < 10 ^ 10) × Stops ps × Neat ps
 Neat (wide z ∷ ps) = TenDigits z × Stops ps × Neat ps
 
@@ -96,9 +97,9 @@ Taken whole s x rest (Err f) = Outside whole f
 abbrev pub line_end : Action → List Piece → List Piece
 line_end a more = blank ∷ small a.thread ∷ blank ∷ small a.subject ∷ ending a.kind a.value (closing ∷ newline ∷ more)
 
-pub record LineEnd (k : ℕ) (a : Action) (ps more : List Piece) : Type 0 where
+pub record LineEnd (k : Kind) (a : Action) (ps more : List Piece) : Type 0 where
   pub pieces : ps ≡ line_end a more
-  pub kind : k ≡ a.kind
+  pub kind : kind_number k ≡ a.kind
   pub lock : 3 ≤ a.kind → a.value ≡ pos 0
 
 -- a piece that is a number

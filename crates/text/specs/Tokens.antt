@@ -2,11 +2,11 @@
 use Rattle.std.specs.Prelude.{◌≡◌, ℕ, suc, ◌+◌, Bool, true, false, cond, List, [], ◌∷◌, length, take, drop, Some, None, codes, Option, ◌==◌, nat_le}
 use Rattle.std.specs.Borrow.{Bor}
 use Rattle.std.specs.Str.{bytes_eq}
+use Rattle.events.specs.declared.kind.Kind.{Kind}
+use Rattle.events.specs.declared.kind.Kind.TheVariants.{Internal, Read, Write, Acquire, Release}
 use Rattle.text.specs.declared.place.Place.{Place}
 use Rattle.text.specs.declared.token.Token.{Token}
 use Rattle.text.specs.declared.token.Token.TheVariants as token
-use Rattle.text.specs.declared.token.Kind.{Kind}
-use Rattle.text.specs.declared.token.Kind.TheVariants.{Blank, Letter, Digit}
 use Rattle.text.specs.declared.token.Sort.{Sort}
 use Rattle.text.specs.declared.token.Sort.TheVariants.{Open, Close, Word, Number}
 use Rattle.text.specs.Places.{byte_place}
@@ -16,34 +16,42 @@ abbrev pub between : ℕ → ℕ → ℕ → Bool
 between low high c = cond (nat_le low c) (nat_le c high) false
 
 -- a blank or line end, a letter a to z, a digit
-abbrev pub is_of_kind : Kind → ℕ → Bool
-is_of_kind Blank c = cond (c == 32) true (c == 10)
-is_of_kind Letter c = between 97 122 c
-is_of_kind Digit c = between 48 57 c
+abbrev pub is_blank : ℕ → Bool
+is_blank c = cond (c == 32) true (c == 10)
+
+abbrev pub is_letter : ℕ → Bool
+is_letter c = between 97 122 c
+
+abbrev pub is_digit : ℕ → Bool
+is_digit c = between 48 57 c
 
 -- the first byte is of the kind
-abbrev pub begins : Kind → List ℕ → Bool
-begins k [] = false
-begins k (c ∷ cs) = is_of_kind k c
+abbrev pub begins : (ℕ → Bool) → List ℕ → Bool
+begins is [] = false
+begins is (c ∷ cs) = is c
 
 -- how many bytes of the kind stand in front, up to the first that is not
-abbrev pub run : Kind → List ℕ → ℕ
-run k [] = 0
-run k (c ∷ cs) = cond (is_of_kind k c) (suc (run k cs)) 0
+abbrev pub run : (ℕ → Bool) → List ℕ → ℕ
+run is [] = 0
+run is (c ∷ cs) = cond (is c) (suc (run is cs)) 0
+
+-- the calls of a test answer so
+abbrev pub Tells : {F : Type 0} → (F → ℕ → Bool → Type 0) → F → (ℕ → Bool) → Type 0
+Tells post f is = (c : ℕ) (b : Bool) → post f c b → b ≡ is c
 
 -- which token a byte begins: a minus begins a number where a digit stands behind it
 abbrev pub sort_of_byte : ℕ → Bool → Option Sort
 sort_of_byte c digit =
     cond (c == 40) (Some Open)
     (cond (c == 41) (Some Close)
-    (cond (is_of_kind Letter c) (Some Word)
-    (cond (is_of_kind Digit c) (Some Number)
+    (cond (is_letter c) (Some Word)
+    (cond (is_digit c) (Some Number)
     (cond (c == 45) (cond digit (Some Number) None) None))))
 
 -- which token the bytes begin with
 abbrev pub sort_of : List ℕ → Option Sort
 sort_of [] = None
-sort_of (c ∷ cs) = sort_of_byte c (begins Digit cs)
+sort_of (c ∷ cs) = sort_of_byte c (begins is_digit cs)
 
 -- a token apart from its place
 pub data Lexeme : Type 0 where
@@ -55,8 +63,8 @@ abbrev pub lexeme_as : Option Sort → List ℕ → Option Lexeme
 lexeme_as None bs = None
 lexeme_as (Some Open) bs = Some left_bracket
 lexeme_as (Some Close) bs = Some right_bracket
-lexeme_as (Some Word) bs = Some (letters (take (suc (run Letter (drop 1 bs))) bs))
-lexeme_as (Some Number) bs = Some (numeral (take (suc (run Digit (drop 1 bs))) bs))
+lexeme_as (Some Word) bs = Some (letters (take (suc (run is_letter (drop 1 bs))) bs))
+lexeme_as (Some Number) bs = Some (numeral (take (suc (run is_digit (drop 1 bs))) bs))
 
 -- what the bytes begin with
 abbrev pub lexeme : List ℕ → Option Lexeme
@@ -84,7 +92,7 @@ seen (Some (token.Number w p)) = Some (numeral w.now, p)
 
 -- how many bytes are passed when the blanks and line ends behind the first k are
 abbrev pub skip : List ℕ → ℕ → ℕ
-skip t k = k + run Blank (drop k t)
+skip t k = k + run is_blank (drop k t)
 
 -- the token that comes next behind k bytes of the text, and how many bytes are passed with it
 abbrev pub ahead : List ℕ → ℕ → Option (Lexeme × Place)
@@ -129,11 +137,11 @@ abbrev pub handed_word : Option (Bor (List ℕ)) → Option (List ℕ)
 handed_word None = None
 handed_word (Some w) = Some w.now
 
--- the number of the kind that a word names
-abbrev pub kind_in : List ℕ → Option ℕ
+-- the kind that a word names
+abbrev pub kind_in : List ℕ → Option Kind
 kind_in w =
-    cond (bytes_eq w (codes "internal")) (Some 0)
-    (cond (bytes_eq w (codes "read")) (Some 1)
-    (cond (bytes_eq w (codes "write")) (Some 2)
-    (cond (bytes_eq w (codes "acquire")) (Some 3)
-    (cond (bytes_eq w (codes "release")) (Some 4) None))))
+    cond (bytes_eq w (codes "internal")) (Some Internal)
+    (cond (bytes_eq w (codes "read")) (Some Read)
+    (cond (bytes_eq w (codes "write")) (Some Write)
+    (cond (bytes_eq w (codes "acquire")) (Some Acquire)
+    (cond (bytes_eq w (codes "release")) (Some Release) None))))

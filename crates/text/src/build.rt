@@ -2,24 +2,25 @@
 ghost use Rattle.std.specs.Prelude.{◌≡◌, ℕ, ◌+◌, ◌-◌, ◌<◌, ◌≤◌, true, false, List, ◌∷◌, length, take, drop, ℤ, pos, is_some, Some, codes};
 ghost use Rattle.grammar.specs.Recording.{All, Legal, Piece, Writable, ending, lines};
 ghost use Rattle.grammar.specs.Recording as piece;
+ghost use Rattle.events.specs.Kinds.{kind_number};
 ghost use Rattle.events.specs.declared.event.Action.{Action as Did};
-ghost use Rattle.std.specs.Str.{bytes_eq};
 ghost use Rattle.text.specs.declared.place.Place.{Place as Spot};
 ghost use Rattle.text.specs.Tokens.{ahead, handed, handed_word, kind_in, number_in, placed, seen, word_in};
 ghost use Rattle.text.specs.Building.{Built};
-ghost use Rattle.text.specs.Standing.{Checked, Ended, LineEnd, ListTaken, Moved, Onward, Role, Roles, Stand, Taken, token_of, trim};
+ghost use Rattle.text.specs.Standing.{Checked, Ended, LineEnd, ListTaken, Moved, Onward, Role, Roles, Stand, Taken, is_number, token_of, trim};
 
 use crate::fault::{ReadFault, TextFault};
-use crate::numbers;
+use crate::lexer::is_blank;
+use crate::numbers::Number;
 use crate::place::Place;
 use crate::reader::Reader;
 use crate::recording::Recording;
-use crate::token::{Kind, Token};
-use events::Action;
+use crate::token::Token;
+use events::{Action, Kind};
 use std::alloc::Global;
 
 // Passes a token, and hands out its part of the text and its place if it is a number.
-fn number<'a>(reader: &mut Reader<'a>) -> Option<(&'a [u8], Place)>
+fn digits<'a>(reader: &mut Reader<'a>) -> Option<(&'a [u8], Place)>
     ensures moved { Moved reader.old reader.new }
     ensures number { handed result ≡ number_in (ahead reader.old.text.now reader.old.at) }
 {
@@ -40,87 +41,63 @@ fn word<'a>(reader: &mut Reader<'a>) -> Option<&'a [u8]>
     }
 }
 
-// The number that comes next, at most 255.
-fn small(reader: &mut Reader) -> Result<u8, TextFault>
+// The number that comes next.
+fn number<T: Number>(reader: &mut Reader) -> Result<T, TextFault>
     ensures moved { Moved reader.old reader.new }
-    ensures taken { (whole ps rest : List Piece) (n : ℕ) → Stand whole reader.old ps → trim ps ≡ piece.small n ∷ rest → Taken whole reader.new n rest result }
+    ensures taken { (whole ps rest : List Piece) (n : T) → is_number (T.spelling n) ≡ true → Stand whole reader.old ps → trim ps ≡ T.spelling n ∷ rest → Taken whole reader.new n rest result }
 {
-    let Some((part, place)) = number(reader) else {
-        return Err(TextFault::Unexpected(reader.place));
-    };
-    numbers::small(part, place)
+    let (part, place) = digits(reader).ok_or(TextFault::Unexpected(reader.place))?;
+    T::read(part, place)
 }
 
-// The number that comes next, of 32 bits.
-fn wide(reader: &mut Reader) -> Result<i32, TextFault>
-    ensures moved { Moved reader.old reader.new }
-    ensures taken { (whole ps rest : List Piece) (z : ℤ) → Stand whole reader.old ps → trim ps ≡ piece.wide z ∷ rest → Taken whole reader.new z rest result }
-{
-    let Some((part, place)) = number(reader) else {
-        return Err(TextFault::Unexpected(reader.place));
-    };
-    numbers::wide(part, place)
-}
-
-fn same(word: &[u8], other: &[u8]) -> bool
-    ensures { result ≡ bytes_eq word.now other.now }
-{
-    word == other
-}
-
-// The number of the kind that a word names.
-fn kind(word: &[u8]) -> Option<u8>
+// The kind that a word names.
+fn kind(word: &[u8]) -> Option<Kind>
     ensures { result ≡ kind_in word.now }
 {
-    if same(word, b"internal") {
-        Some(0)
-    } else if same(word, b"read") {
-        Some(1)
-    } else if same(word, b"write") {
-        Some(2)
-    } else if same(word, b"acquire") {
-        Some(3)
-    } else if same(word, b"release") {
-        Some(4)
-    } else {
-        None
+    match word {
+        b"internal" => Some(Kind::Internal),
+        b"read" => Some(Kind::Read),
+        b"write" => Some(Kind::Write),
+        b"acquire" => Some(Kind::Acquire),
+        b"release" => Some(Kind::Release),
+        _ => None,
     }
 }
 
-// Passes a bracket and the word behind it: the number of the kind that the word names, if it names
-// one.
-fn verb(reader: &mut Reader) -> Option<u8>
+// Passes a bracket and the word behind it: the kind that the word names, if it names one.
+fn verb(reader: &mut Reader) -> Option<Kind>
     ensures onward { Onward reader.old reader.new }
     ensures further { is_some result ≡ true → reader.old.at < reader.new.at }
     ensures kind { (whole ps rest : List Piece) (w : List ℕ) → Stand whole reader.old ps → trim ps ≡ piece.opening ∷ piece.word w ∷ rest → (result ≡ kind_in w) × Stand whole reader.new rest }
 {
     let _ = reader.next();
-    let Some(name) = word(reader) else {
-        return None;
-    };
+    let name = word(reader)?;
     kind(name)
 }
 
 // The value of an event of the kind: a lock's event has none written.
-fn value(reader: &mut Reader, kind: u8) -> Result<i32, TextFault>
+fn value(reader: &mut Reader, kind: Kind) -> Result<i32, TextFault>
     ensures onward { Onward reader.old reader.new }
-    ensures taken { (whole ps rest : List Piece) (z : ℤ) → Stand whole reader.old ps → ps ≡ ending kind z rest → (3 ≤ kind → z ≡ pos 0) → Taken whole reader.new z rest result }
+    ensures taken { (whole ps rest : List Piece) (z : ℤ) → Stand whole reader.old ps → ps ≡ ending (kind_number kind) z rest → (3 ≤ kind_number kind → z ≡ pos 0) → Taken whole reader.new z rest result }
 {
-    if kind < 3 { wide(reader) } else { Ok(0) }
+    match kind {
+        Kind::Internal | Kind::Read | Kind::Write => number(reader),
+        Kind::Acquire | Kind::Release => Ok(0),
+    }
 }
 
 // What an event line says behind its kind.
-fn event(reader: &mut Reader, kind: u8) -> Result<Action, TextFault>
+fn event(reader: &mut Reader, kind: Kind) -> Result<Action, TextFault>
     ensures onward { Onward reader.old reader.new }
     ensures taken { (whole ps rest : List Piece) (a : Did) → Stand whole reader.old ps → LineEnd kind a ps rest → Taken whole reader.new a (piece.newline ∷ rest) result }
 {
-    let thread = small(reader)?;
-    let subject = small(reader)?;
+    let thread = number(reader)?;
+    let subject = number(reader)?;
     let value = value(reader, kind)?;
     let _ = reader.next();
     Ok(Action {
         thread,
-        kind,
+        kind: u8::from(kind),
         subject,
         value,
     })
@@ -131,8 +108,8 @@ fn values(heap: Global, reader: &mut Reader) -> Result<Vec<i32>, ReadFault>
     ensures { (whole ps rest : List Piece) (zs : List ℤ) → Stand whole reader.old ps → trim ps ≡ piece.values zs (piece.closing ∷ rest) → ListTaken whole reader.new zs rest result }
 {
     let mut values = Vec::new(heap);
-    while let Some((part, place)) = number(reader) {
-        let value = numbers::wide(part, place)?;
+    while let Some((part, place)) = digits(reader) {
+        let value = i32::read(part, place)?;
         values.push(value)?;
     }
     Ok(values)
@@ -159,9 +136,9 @@ fn in_range(token: Token, behind: bool) -> Result<bool, TextFault>
         return Ok(false);
     };
     if behind {
-        let _ = numbers::wide(part, place)?;
+        i32::read(part, place)?;
     } else {
-        let _ = numbers::small(part, place)?;
+        u8::read(part, place)?;
     }
     Ok(true)
 }
@@ -194,12 +171,12 @@ pub(crate) fn build<'a>(heap: Global, text: &'a [u8]) -> Result<Recording<'a>, R
 {
     let mut reader = Reader::new(text);
     let _ = verb(&mut reader);
-    let threads = small(&mut reader)?;
+    let threads = number(&mut reader)?;
     let _ = reader.next();
     let starts = values(heap, &mut reader)?;
     let _ = reader.next();
     let actions = actions(heap, &mut reader)?;
-    reader.pass(Kind::Blank);
+    reader.pass(is_blank);
     let from = reader.at;
     let rule_place = reader.place;
     rule(&mut reader)?;

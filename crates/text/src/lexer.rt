@@ -1,56 +1,43 @@
 // Cuts a text into tokens.
-ghost use Rattle.std.specs.Prelude.{◌≡◌, ℕ, ◌+◌, ◌<◌, ◌≤◌, length, drop};
+ghost use Rattle.std.specs.Prelude.{◌≡◌, ℕ, Bool, ◌+◌, ◌<◌, ◌≤◌, length, drop};
 ghost use Rattle.text.specs.Places.{byte_place, past};
-ghost use Rattle.text.specs.Tokens.{begins, Next, is_of_kind, run, sort_of_byte, sort_of};
+ghost use Rattle.text.specs.Tokens.{is_blank as blank, is_letter as letter, is_digit as digit};
+ghost use Rattle.text.specs.Tokens.{Next, Tells, run, sort_of};
 
 use crate::place::Place;
 use crate::reader::Reader;
-use crate::token::{Kind, Sort, Token};
+use crate::token::{Sort, Token};
 
-fn of_kind(kind: Kind, byte: u8) -> bool
-    ensures { result ≡ is_of_kind kind byte }
+// Whether a byte is a blank or the end of a line.
+pub(crate) fn is_blank(byte: u8) -> bool
+    ensures { result ≡ blank byte }
 {
-    match kind {
-        Kind::Blank => byte == b' ' || byte == b'\n',
-        Kind::Letter => b'a' <= byte && byte <= b'z',
-        Kind::Digit => b'0' <= byte && byte <= b'9',
-    }
+    matches!(byte, b' ' | b'\n')
 }
 
-// Whether a byte of the kind comes next.
-fn begins_with(text: &[u8], at: usize, kind: Kind) -> bool
-    ensures { result ≡ begins kind (drop at text.now) }
+fn is_letter(byte: u8) -> bool
+    ensures { result ≡ letter byte }
 {
-    if at < text.len() {
-        of_kind(kind, text[at])
-    } else {
-        false
-    }
+    byte.is_ascii_lowercase()
 }
 
-// Which token a byte begins, if any, where it is told whether a digit stands behind it.
-fn sort_by(byte: u8, digit: bool) -> Option<Sort>
-    ensures { result ≡ sort_of_byte byte digit }
+fn is_digit(byte: u8) -> bool
+    ensures { result ≡ digit byte }
 {
-    match byte {
+    byte.is_ascii_digit()
+}
+
+// Which token a byte of the text begins, if any: a minus begins a number where a digit is behind it.
+fn sort_at(text: &[u8], at: usize) -> Option<Sort>
+    ensures { result ≡ sort_of (drop at text.now) }
+{
+    match *text.get(at)? {
         b'(' => Some(Sort::Open),
         b')' => Some(Sort::Close),
         b'a'..=b'z' => Some(Sort::Word),
         b'0'..=b'9' => Some(Sort::Number),
-        b'-' => { if digit { Some(Sort::Number) } else { None } }
+        b'-' if text.get(at + 1).is_some_and(u8::is_ascii_digit) => Some(Sort::Number),
         _ => None,
-    }
-}
-
-// Which token comes next, if one does.
-fn sort_at(text: &[u8], at: usize) -> Option<Sort>
-    ensures { result ≡ sort_of (drop at text.now) }
-{
-    if at < text.len() {
-        let digit = begins_with(text, at + 1, Kind::Digit);
-        sort_by(text[at], digit)
-    } else {
-        None
     }
 }
 
@@ -96,12 +83,14 @@ impl<'a> Reader<'a> {
         self.at = at + 1;
     }
 
-    // Passes the bytes of the kind that come next.
-    pub(crate) fn pass(&mut self, kind: Kind)
+    // Passes the bytes that come next, up to the first that is not one of those told by `is`.
+    pub(crate) fn pass<F: Fn(u8) -> bool>(&mut self, is: F)
+        requires { F.IsAlwaysCallable is }
         ensures text { self.new.text.now ≡ self.old.text.now }
-        ensures at { self.new.at ≡ self.old.at + run kind (drop self.old.at self.old.text.now) }
+        ensures on { self.old.at ≤ self.new.at }
+        ensures at { (kind : ℕ → Bool) → Tells F.post is kind → self.new.at ≡ self.old.at + run kind (drop self.old.at self.old.text.now) }
     {
-        while begins_with(self.text, self.at, kind) {
+        while self.at < self.text.len() && is(self.text[self.at]) {
             self.step();
         }
     }
@@ -112,7 +101,7 @@ impl<'a> Reader<'a> {
         ensures text { self.new.text.now ≡ self.old.text.now }
         ensures token { Next self.old.text.now self.old.at result self.new.at }
     {
-        self.pass(Kind::Blank);
+        self.pass(is_blank);
         let text = self.text;
         let from = self.at;
         let place = self.place;
@@ -124,11 +113,11 @@ impl<'a> Reader<'a> {
             Sort::Open => Some(Token::Open(place)),
             Sort::Close => Some(Token::Close(place)),
             Sort::Word => {
-                self.pass(Kind::Letter);
+                self.pass(is_letter);
                 Some(Token::Word(&text[from..self.at], place))
             }
             Sort::Number => {
-                self.pass(Kind::Digit);
+                self.pass(is_digit);
                 Some(Token::Number(&text[from..self.at], place))
             }
         }

@@ -16,7 +16,7 @@ pub mod token;
 pub use fault::{ReadFault, TextFault};
 pub use language::{Language, Recordings, Rules};
 pub use lexer::place_at;
-pub use numbers::{small, wide};
+pub use numbers::Number;
 pub use place::Place;
 pub use reader::Reader;
 pub use reading::{LONGEST, admit, read};

@@ -1,8 +1,8 @@
 // Numbers from their digits.
-ghost use Rattle.std.specs.Prelude.{◌≡◌, ℕ, ◌^◌, ◌<◌, ℤ, decimal, IsUtf8};
-ghost use Rattle.grammar.specs.Recording.{TenDigits};
-ghost use Rattle.std.specs.Fmt.{signed_decimal};
-ghost use Rattle.text.specs.Ranges.{ParsedAt, small_number, wide_number};
+ghost use Rattle.std.specs.Prelude.{◌≡◌, IsUtf8};
+ghost use Rattle.grammar.specs.Recording.{Piece, bytes};
+ghost use Rattle.grammar.specs.Recording as piece;
+ghost use Rattle.text.specs.Ranges.{ParsedAt, Short, fitting};
 
 use crate::fault::TextFault;
 use crate::place::Place;
@@ -10,25 +10,39 @@ use std::num::ParseIntError;
 use std::str;
 use std::str::FromStr;
 
-// The number of this type that the bytes at a place spell: any others are out of its range.
-fn number<T: FromStr<Err = ParseIntError>>(part: &[u8], place: Place) -> Result<T, TextFault>
-    ensures { IsUtf8 part.now → ParsedAt T.from_str_gives part.now place result }
+// A type of the numbers of a text.
+pub trait Number: Sized {
+    // the piece of a text that spells the number
+    ghost spelling: { Self → Piece };
+
+    // The number that the digits at a place spell, which has to be in the range of its piece.
+    fn read(digits: &[u8], place: Place) -> Result<Self, TextFault>
+        ensures { (n : Self) → Short (spelling n) → digits.now ≡ bytes (spelling n) → result ≡ fitting (spelling n) n place };
+}
+
+// The number that the bytes at a place spell: any others are out of range.
+fn parse<T: FromStr<Err = ParseIntError>>(digits: &[u8], place: Place) -> Result<T, TextFault>
+    ensures { IsUtf8 digits.now → ParsedAt T.from_str_gives digits.now place result }
 {
     let fault = TextFault::OutOfRange(place);
-    let digits = str::from_utf8(part).map_err(|_| fault)?;
+    let digits = str::from_utf8(digits).map_err(|_| fault)?;
     digits.parse().map_err(|_| fault)
 }
 
-// The number that the digits at a place spell, which has to be at most 255.
-pub fn small(part: &[u8], place: Place) -> Result<u8, TextFault>
-    ensures { (n : ℕ) → n < 10 ^ 10 → part.now ≡ decimal n → result ≡ small_number n place }
-{
-    number::<u8>(part, place)
+// Thread counts, threads, labels, variables and locks: at most 255.
+impl Number for u8 {
+    ghost spelling = { piece.small };
+
+    fn read(digits: &[u8], place: Place) -> Result<u8, TextFault> {
+        parse::<u8>(digits, place)
+    }
 }
 
-// The number that the digits at a place spell, behind a minus or not, which has to fit 32 bits.
-pub fn wide(part: &[u8], place: Place) -> Result<i32, TextFault>
-    ensures { (z : ℤ) → TenDigits z → part.now ≡ signed_decimal z → result ≡ wide_number z place }
-{
-    number::<i32>(part, place)
+// Values, behind a minus or not: of 32 bits.
+impl Number for i32 {
+    ghost spelling = { piece.wide };
+
+    fn read(digits: &[u8], place: Place) -> Result<i32, TextFault> {
+        parse::<i32>(digits, place)
+    }
 }

@@ -11,15 +11,6 @@ pub enum Token<'a> {
     Number(&'a [u8], Place),
 }
 
-// What a byte is, where a run of its like is read.
-#[derive(Clone, Copy)]
-pub(crate) enum Kind {
-    // a blank or the end of a line
-    Blank,
-    Letter,
-    Digit,
-}
-
 // Which token begins at a byte.
 #[derive(Clone, Copy)]
 pub(crate) enum Sort {

@@ -1,8 +1,9 @@
-use Rattle.std.proofs.Common.{◌≡◌, ℕ, List, ◌∷◌, length, sym, refl, ap, ◌∙◌, arith}
+use Rattle.std.proofs.Common.{◌≡◌, ℕ, List, ◌∷◌, length, sym, refl, ap, ◌∙◌, arith, rules}
 use Rattle.std.proofs.lemmas.Result.{err_from_is_err_and}
 use Rattle.grammar.specs.Recording.{newline, pieces}
 use Rattle.text.specs.Places.{byte_place}
 use Rattle.text.specs.Standing.{Stand}
+use Rattle.text.specs.Tokens.{is_blank}
 use Rattle.text.proofs.Building.{at_lines, at_rule, built_fails, built_ok, built_out, count_on, lines_on, opened, rule_on, rule_part, rule_roles, rule_size, trim_values, values_on}
 use Rattle.text.proofs.Meeting.{meet}
 use Rattle.text.proofs.Taking.{next_moved}
@@ -16,8 +17,8 @@ counting c =
 
 valuing : (c : After-next) → Stand (pieces c.requires.0) c.next.new.self (values_on c.requires.0)
 valuing c =
-    let two = c.in_ok-threads.ensures.taken _ _ _ c.requires.0.threads (counting (goal.at.After-next c).After-verb) refl in
-    (meet {s = c.small.new.reader} {e = c.next.new.self} two.1 refl (next_moved {s = c.small.new.reader} {e = c.next.new.self} c.next.ensures.text c.next.ensures.token)).goes tt
+    let two = c.in_ok-threads.ensures.taken _ _ _ c.requires.0.threads refl (counting (goal.at.After-next c).After-verb) refl in
+    (meet {s = c.number.new.reader} {e = c.next.new.self} two.1 refl (next_moved {s = c.number.new.reader} {e = c.next.new.self} c.next.ensures.text c.next.ensures.token)).goes tt
 
 lining : (c : After-next-2) → Stand (pieces c.requires.0) c.next-2.new.self (newline ∷ lines_on c.requires.0)
 lining c =
@@ -28,14 +29,14 @@ ruling : (c : After-pass) → Stand (pieces c.requires.0) c.pass.new.self (rule_
 ruling c =
     let r = c.requires.0 in
     let six = c.in_ok-actions.ensures _ _ _ r.actions c.requires.1.actions (lining (goal.at.After-pass c).After-next-2) (at_lines r) in
-    at_rule r c.actions.new.reader c.pass.new.self six.1 c.pass.ensures.text c.pass.ensures.at
+    at_rule r c.actions.new.reader c.pass.new.self six.1 c.pass.ensures.text (c.pass.ensures.at is_blank (λ x b p. search rules))
 
 pub returns-in_err-threads : goal.returns-in_err-threads
 returns-in_err-threads c =
     let r = c.requires.0 in
     let p = err_from_is_err_and c.from_residual.result c.from_residual.ensures.1 in
     let at = counting (goal.at.returns-in_err-threads c).After-verb in
-    built_out c.args.text.now r c.requires.1 c.requires.2 p.1 p.2 (c.in_err-threads.ensures.taken _ _ _ r.threads at refl)
+    built_out c.args.text.now r c.requires.1 c.requires.2 p.1 p.2 (c.in_err-threads.ensures.taken _ _ _ r.threads refl at refl)
 
 pub returns-in_err-starts : goal.returns-in_err-starts
 returns-in_err-starts c =
@@ -68,7 +69,7 @@ returns c =
     let r = c.requires.0 in
     let t = c.args.text.now in
     let e = c.pass.new.self in
-    let counted = c.in_ok-threads.ensures.taken _ _ _ r.threads (counting (goal.at.returns c).After-verb) refl in
+    let counted = c.in_ok-threads.ensures.taken _ _ _ r.threads refl (counting (goal.at.returns c).After-verb) refl in
     let valued = c.in_ok-starts.ensures _ _ _ r.starts (valuing (goal.at.returns c).After-next) (trim_values r.starts _) in
     let lined = c.in_ok-actions.ensures _ _ _ r.actions c.requires.1.actions (lining (goal.at.returns c).After-next-2) (at_lines r) in
     let at = ruling (goal.at.returns c).After-pass in

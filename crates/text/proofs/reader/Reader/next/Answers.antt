@@ -1,4 +1,5 @@
-use Rattle.std.proofs.Common.{sym, refl}
+use Rattle.std.proofs.Common.{sym, refl, ◌∙◌, rules}
+use Rattle.text.specs.Tokens.{is_blank, is_digit, is_letter}
 use Rattle.text.proofs.Going.{sort_within, next_word, next_number}
 use Rattle.text.proofs.reader.Reader.next.Goals as goal
 
@@ -9,12 +10,12 @@ pub returns-in-Word : goal.returns-in-Word
 returns-in-Word c = record {
   text = cc;
   token = next_word c.args.self.now.text.now c.pass.new.self.text.now c.args.self.now.at c.pass.new.self.at c.pass-in-Word.new.self.at
-      c.pass.new.self.place c.pass.ensures.text c.pass.ensures.at c.pass.new.self.placed _ (cc) (cc) refl;
+      c.pass.new.self.place c.pass.ensures.text (c.pass.ensures.at is_blank (λ x b p. search rules)) c.pass.new.self.placed _ (cc) (c.pass-in-Word.ensures.at is_letter (λ x b p. search rules) ∙ cc) refl;
 }
 
 pub returns-in-Number : goal.returns-in-Number
 returns-in-Number c = record {
   text = cc;
   token = next_number c.args.self.now.text.now c.pass.new.self.text.now c.args.self.now.at c.pass.new.self.at c.pass-in-Number.new.self.at
-      c.pass.new.self.place c.pass.ensures.text c.pass.ensures.at c.pass.new.self.placed _ (cc) (cc) refl;
+      c.pass.new.self.place c.pass.ensures.text (c.pass.ensures.at is_blank (λ x b p. search rules)) c.pass.new.self.placed _ (cc) (c.pass-in-Number.ensures.at is_digit (λ x b p. search rules) ∙ cc) refl;
 }
