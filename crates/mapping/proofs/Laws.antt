@@ -70,8 +70,10 @@ mappable o es n a b =
     let w = within_of o es n in
     record {
       sound = sound_of o es n;
-      threads = λ i h. omega (arith, w.threads i h);
-      variables = λ i h. omega (arith, w.subjects_below i h, subjects_few o (kind_at es i) b);
-      locks = λ i h l. omega (arith, w.subjects_below i h, subjects_lock o (kind_at es i) l);
-      places = w.places;
+      bounded = λ i h. record {
+        thread = omega (arith, w.threads i h);
+        variable = omega (arith, w.subjects_below i h, subjects_few o (kind_at es i) b);
+        lock = λ l. omega (arith, w.subjects_below i h, subjects_lock o (kind_at es i) l);
+        place = w.places i h;
+      };
     }

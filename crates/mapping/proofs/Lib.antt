@@ -1,4 +1,4 @@
 pub mod Spots
-pub mod Latest
+pub mod Tables
 pub mod Filled
 pub mod Laws

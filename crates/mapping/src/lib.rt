@@ -2,10 +2,9 @@
 #![tactic(auto)]
 
 mod clocks;
-mod kinds;
+mod latest;
 mod places;
 pub mod refusal;
-mod sources;
 pub mod writing;
 
 pub use refusal::MapRefusal;

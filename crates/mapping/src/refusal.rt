@@ -6,18 +6,15 @@ ghost use Rattle.mapping.specs.Numbers.{map_number};
 #[derive(Clone, Copy, Debug, PartialEq, Eq)]
 pub enum MapRefusal {
     // the trace is void
-    Void,
+    Void = 9,
     // fewer map rows than events
-    Rows,
+    Rows = 41,
 }
 
 impl MapRefusal {
     pub fn number(self) -> u8
         ensures { result ≡ map_number self }
     {
-        match self {
-            MapRefusal::Void => 9,
-            MapRefusal::Rows => 41,
-        }
+        self as u8
     }
 }

@@ -19,7 +19,7 @@ use Rattle.order.proofs.Decided.{decides_feeds}
 use Rattle.order.proofs.Order.{feeds_later, noted}
 use Rattle.order.proofs.Reordered.{rep_at, rep_length}
 use Rattle.order.proofs.Clocks.{scan_counts}
-use Rattle.order.proofs.Rows.{listed}
+use Rattle.order.proofs.Rows.{same_threads, same_places, listed}
 use Rattle.order.proofs.Maps.{equal_maps}
 use Rattle.order.proofs.Fits.{fits}
 
@@ -62,11 +62,7 @@ module _ (es : List Event) (sound : Sound es) where
 
   row_of : (i : ℕ) → i < length es → RowOf es i (row es i)
   row_of i h = record {
-    thread = refl;
-    place = refl;
-    kind = refl;
-    subject = refl;
-    value = refl;
+    event = refl;
     source = source_of i;
     width = length-map (range_with_len 0 8) ((scan es (suc i)).threads (thread_at es i)) ∙ length-range_with_len 0 8;
     clock = λ t l.
@@ -86,8 +82,8 @@ abbrev Earlier : List Event → ℕ → ℕ → Type 0
 Earlier es e i = (thread_at es e < thread_at es i) ⊎ ((thread_at es e ≡ thread_at es i) × (place_at es e < place_at es i))
 
 rows_ahead : (es : List Event) (e i : ℕ) (v w : Row) → RowOf es e v → RowOf es i w → Earlier es e i → Ahead v w
-rows_ahead es e i v w a b (inl h) = inl (omega (arith, a.thread, b.thread))
-rows_ahead es e i v w a b (inr h) = inr (a.thread ∙ h.0 ∙ sym b.thread, omega (arith, a.place, b.place, h.1))
+rows_ahead es e i v w a b (inl h) = inl (omega (arith, same_threads a.event, same_threads b.event))
+rows_ahead es e i v w a b (inr h) = inr (same_threads a.event ∙ h.0 ∙ sym (same_threads b.event), omega (arith, same_places a.event, same_places b.event, h.1))
 
 part_like : (es : List Event) (K L : ℕ → Type 0) (m : List Row) → ((e : ℕ) → e < length es → K e → L e) → ((e : ℕ) → e < length es → L e → K e)
     → Part es K m → Part es L m
@@ -240,22 +236,23 @@ module _ (es : List Event) (sound : Sound es) where
           below = λ k l. (f.2 k l).0;
           apart = λ j k u v e.
               let v' = (f.2 k v).1 in
-              row_once j k u v ((f.2 j u).1.thread ∙ ap (thread_at es) e ∙ sym v'.thread) ((f.2 j u).1.place ∙ ap (place_at es) e ∙ sym v'.place);
+              let q = (f.2 j u).1.event ∙ ap (λ i. get_or es i blank) e ∙ sym v'.event in
+              row_once j k u v (same_threads q) (same_places q);
         }) in
         let y = fits (length es) (length m) (λ i. get_or g.0 i 0) (record {
           below = λ i l. (g.2 i l).0;
           apart = λ i j u v e.
-              same_event es sound i j u v
-              (sym (g.2 i u).1.thread ∙ ap (λ k. (get_or m k no_row).thread) e ∙ (g.2 j v).1.thread)
-              (sym (g.2 i u).1.place ∙ ap (λ k. (get_or m k no_row).place) e ∙ (g.2 j v).1.place);
+              let q = sym (g.2 i u).1.event ∙ ap (λ k. (get_or m k no_row).event) e ∙ (g.2 j v).1.event in
+              same_event es sound i j u v (same_threads q) (same_places q);
         }) in
         omega arith
       where
-        never : (v w : Row) → v.thread ≡ w.thread → v.place ≡ w.place → Ahead v w → ⊥
+        never : (v w : Row) → v.event.thread ≡ w.event.thread → v.event.place ≡ w.event.place → Ahead v w → ⊥
         never v w t p (inl h) = omega arith
         never v w t p (inr h) = omega (arith, h.1)
 
-        row_once : (j k : ℕ) → j < length m → k < length m → (get_or m j no_row).thread ≡ (get_or m k no_row).thread → (get_or m j no_row).place ≡ (get_or m k no_row).place → j ≡ k
+        row_once : (j k : ℕ) → j < length m → k < length m
+            → (get_or m j no_row).event.thread ≡ (get_or m k no_row).event.thread → (get_or m j no_row).event.place ≡ (get_or m k no_row).event.place → j ≡ k
         row_once j k u v t p =
             elim (cases_order j k) [
               | inl q ↦ q

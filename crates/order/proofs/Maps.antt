@@ -4,7 +4,7 @@ use Rattle.std.proofs.lemmas.List.{ext_get_or}
 use Rattle.std.proofs.lemmas.Bool.{cases_order}
 use Rattle.events.specs.declared.event.Event.{Event}
 use Rattle.order.specs.declared.row.Row.{Row}
-use Rattle.order.specs.Trace.{blank, thread_at, place_at, kind_at, subject_at, value_at}
+use Rattle.order.specs.Trace.{blank, thread_at, place_at}
 use Rattle.order.specs.Before.{Feeds, Before, UpTo}
 use Rattle.order.specs.Before.Before.{in_thread, fed, chain}
 use Rattle.order.specs.Runs.{Ordering, Consistent, reordered, RunAmong, SameFeeds}
@@ -16,15 +16,11 @@ use Rattle.order.proofs.Decided.{feeds_noted}
 use Rattle.order.proofs.Feeders.{one_feeder}
 use Rattle.order.proofs.Reordered.{rep_at, rep_length, rep_thread, rep_place, feeds_to_rep, feeds_from_rep, before_rep, consistent_from}
 use Rattle.order.proofs.Numbers.{within}
-use Rattle.order.proofs.Rows.{same_events, same_rows, listed, same_lists}
+use Rattle.order.proofs.Rows.{same_threads, same_places, same_rows, listed, same_lists}
 
 -- a row but for the clock
 record Told (es : List Event) (i : ℕ) (w : Row) : Type 0 where
-  thread : w.thread ≡ thread_at es i
-  place : w.place ≡ place_at es i
-  kind : w.kind ≡ kind_at es i
-  subject : w.subject ≡ subject_at es i
-  value : w.value ≡ value_at es i
+  event : w.event ≡ get_or es i blank
   source : Source es i w.source.0 w.source.1
 
 record Tells (es : List Event) (m : List Row) : Type 0 where
@@ -32,7 +28,7 @@ record Tells (es : List Event) (m : List Row) : Type 0 where
   only : (k : ℕ) → k < length m → (i : ℕ) × (i < length es) × Told es i (get_or m k no_row)
 
 told : (es : List Event) (i : ℕ) (w : Row) → RowOf es i w → Told es i w
-told es i w h = record { thread = h.thread; place = h.place; kind = h.kind; subject = h.subject; value = h.value; source = h.source }
+told es i w h = record { event = h.event; source = h.source }
 
 tells : (es : List Event) (m : List Row) → MapOf es m → Tells es m
 tells es m b = record {
@@ -65,16 +61,14 @@ record Twin (es fs : List Event) (i x : ℕ) : Type 0 where
   noted : x < length fs
 
 module _ (es fs : List Event) (i x : ℕ) (w : Twin es fs i x) where
+  twin_event : get_or es i blank ≡ get_or fs x blank
+  twin_event = sym w.here.event ∙ w.there.event
+
   twin_thread : thread_at es i ≡ thread_at fs x
-  twin_thread = sym w.here.thread ∙ w.there.thread
+  twin_thread = same_threads twin_event
 
   twin_place : place_at es i ≡ place_at fs x
-  twin_place = sym w.here.place ∙ w.there.place
-
-  twin_event : get_or es i blank ≡ get_or fs x blank
-  twin_event =
-      same_events (get_or es i blank) (get_or fs x blank) twin_thread twin_place
-      (sym w.here.kind ∙ w.there.kind) (sym w.here.subject ∙ w.there.subject) (sym w.here.value ∙ w.there.value)
+  twin_place = same_places twin_event
 
 module _ (es fs : List Event) (se : Sound es) (sf : Sound fs) (m : List Row) (a : Tells es m) (b : Tells fs m) where
   twin_of : (i : ℕ) → i < length es → (x : ℕ) × Twin es fs i x
@@ -97,8 +91,8 @@ module _ (es fs : List Event) (se : Sound es) (sf : Sound fs) (m : List Row) (a 
             j.0,
             omega arith,
             same_event fs sf (get_or r j.0 0) i w.noted l
-                (sym (twin_thread es fs j.0 (get_or r j.0 0) w) ∙ sym j.2.thread ∙ k.2.thread)
-                (sym (twin_place es fs j.0 (get_or r j.0 0) w) ∙ sym j.2.place ∙ k.2.place),
+                (sym (twin_thread es fs j.0 (get_or r j.0 0) w) ∙ same_threads (sym j.2.event ∙ k.2.event))
+                (sym (twin_place es fs j.0 (get_or r j.0 0) w) ∙ same_places (sym j.2.event ∙ k.2.event)),
           );
       once = λ j k x y e.
           same_event es se j k (omega arith) (omega arith)
@@ -210,12 +204,7 @@ module _ (fs : List Event) (sf : Sound fs) (r : List ℕ) (run : Consistent fs r
       let q = rep_at fs r o j l in
       let s = same_source j v.source.0 v.source.1 w.source.0 w.source.1 l a.source b.source in
       same_rows v w
-      (a.thread ∙ ap (λ (e : Event). e.thread) q ∙ sym b.thread)
-      (a.place ∙ ap (λ (e : Event). e.place) q ∙ sym b.place)
-      (a.kind ∙ ap (λ (e : Event). e.kind) q ∙ sym b.kind)
-      (a.subject ∙ ap (λ (e : Event). e.subject) q ∙ sym b.subject)
-      (a.value ∙ ap (λ (e : Event). e.value) q ∙ sym b.value)
-      s.0 s.1
+      (a.event ∙ q ∙ sym b.event) s.0 s.1
       (ext_get_or 0 v.clock w.clock (a.width ∙ sym b.width)
       (λ t h.
       let k : t < 8 = omega (arith, a.width) in

@@ -1,4 +1,4 @@
--- Lists of rows in order; rows and events that agree in all they hold; a list made of choices.
+-- Lists of rows in order; events that agree, and rows that agree in all they hold; a list made of choices.
 use Rattle.std.proofs.Common.{◌≡◌, ℕ, zero, suc, ◌<◌, List, [], ◌∷◌, length, get_or, sym, refl, ap, ◌∙◌, subst, inl, inr, arith}
 use Rattle.std.proofs.lemmas.List.{ext_get_or}
 use Rattle.std.proofs.lemmas.Bool.{cases_order}
@@ -6,12 +6,14 @@ use Rattle.events.specs.declared.event.Event.{Event}
 use Rattle.order.specs.declared.row.Row.{Row}
 use Rattle.order.specs.Maps.{no_row, Ahead}
 
-pub same_events : (a b : Event) → a.thread ≡ b.thread → a.place ≡ b.place → a.kind ≡ b.kind → a.subject ≡ b.subject → a.value ≡ b.value → a ≡ b
-same_events a b t p k s v = λ i. record { thread = t i; place = p i; kind = k i; subject = s i; value = v i }
+pub same_threads : {a b : Event} → a ≡ b → a.thread ≡ b.thread
+same_threads e = ap (λ (x : Event). x.thread) e
 
-pub same_rows : (a b : Row) → a.thread ≡ b.thread → a.place ≡ b.place → a.kind ≡ b.kind → a.subject ≡ b.subject → a.value ≡ b.value
-    → a.source.0 ≡ b.source.0 → a.source.1 ≡ b.source.1 → a.clock ≡ b.clock → a ≡ b
-same_rows a b t p k s v x y c = λ i. record { thread = t i; place = p i; kind = k i; subject = s i; value = v i; source = (x i, y i); clock = c i }
+pub same_places : {a b : Event} → a ≡ b → a.place ≡ b.place
+same_places e = ap (λ (x : Event). x.place) e
+
+pub same_rows : (a b : Row) → a.event ≡ b.event → a.source.0 ≡ b.source.0 → a.source.1 ≡ b.source.1 → a.clock ≡ b.clock → a ≡ b
+same_rows a b e x y c = λ i. record { event = e i; source = (x i, y i); clock = c i }
 
 -- a choice for each number below n, as a list
 pub listed : (n : ℕ) (P : ℕ → ℕ → Type 0) → ((i : ℕ) → i < n → (x : ℕ) × P i x)
@@ -27,8 +29,8 @@ listed (suc n) P h =
     go x p r f (suc i) l = f i (omega arith)
 
 ahead_apart : (v w : Row) → v ≡ w → Ahead v w → ⊥
-ahead_apart v w e (inl l) = omega (arith, ap (λ (u : Row). u.thread) e)
-ahead_apart v w e (inr l) = omega (arith, ap (λ (u : Row). u.place) e)
+ahead_apart v w e (inl l) = omega (arith, ap (λ (u : Row). u.event.thread) e)
+ahead_apart v w e (inr l) = omega (arith, ap (λ (u : Row). u.event.place) e)
 
 ahead_once : (v w : Row) → Ahead v w → Ahead w v → ⊥
 ahead_once v w (inl a) (inl b) = omega arith

@@ -1,9 +1,9 @@
 -- The map of a noted list: what it says of each event, without the order in which the events were noted.
-use Rattle.std.specs.Prelude.{◌≡◌, ℕ, zero, suc, ◌<◌, cond, ◌⊎◌, List, [], ◌∷◌, ◌++◌, map, length, pos, ◌==◌, slice_index, slice_index_or}
+use Rattle.std.specs.Prelude.{◌≡◌, ℕ, zero, suc, ◌<◌, cond, ◌⊎◌, List, [], ◌∷◌, ◌++◌, map, length, ◌==◌, slice_index, slice_index_or}
 use Rattle.std.specs.List.{range_with_len}
 use Rattle.events.specs.declared.event.Event.{Event}
 use Rattle.order.specs.declared.row.Row.{Row}
-use Rattle.order.specs.Trace.{thread_at, place_at, kind_at, subject_at, value_at}
+use Rattle.order.specs.Trace.{blank, thread_at, place_at}
 use Rattle.order.specs.Before.{Feeds}
 use Rattle.order.specs.Clocks.{Counts, clock_at}
 use Rattle.order.specs.Tests.{feeds}
@@ -16,22 +16,18 @@ Source es i t p =
 
 -- w is the row of event i
 pub record RowOf (es : List Event) (i : ℕ) (w : Row) : Type 0 where
-  pub thread : w.thread ≡ thread_at es i
-  pub place : w.place ≡ place_at es i
-  pub kind : w.kind ≡ kind_at es i
-  pub subject : w.subject ≡ subject_at es i
-  pub value : w.value ≡ value_at es i
+  pub event : w.event ≡ slice_index_or es i blank
   pub source : Source es i w.source.0 w.source.1
   pub width : length w.clock ≡ 8
   pub clock : (t : ℕ) → t < 8 → Counts es i t (slice_index w.clock t)
 
 -- read only past the end of a map
 abbrev pub no_row : Row
-no_row = record { thread = 0; place = 0; kind = 0; subject = 0; value = pos 0; source = (0, 0); clock = [] }
+no_row = record { event = blank; source = (0, 0); clock = [] }
 
 -- by thread, then by place
 abbrev pub Ahead : Row → Row → Type 0
-Ahead v w = (v.thread < w.thread) ⊎ ((v.thread ≡ w.thread) × (v.place < w.place))
+Ahead v w = (v.event.thread < w.event.thread) ⊎ ((v.event.thread ≡ w.event.thread) × (v.event.place < w.event.place))
 
 -- m is the map of es: a row for each event and for nothing else, in order
 pub record MapOf (es : List Event) (m : List Row) : Type 0 where
@@ -46,11 +42,7 @@ source es i (suc k) = cond (feeds es k i) (thread_at es k, place_at es k) (sourc
 
 abbrev pub row : List Event → ℕ → Row
 row es i = record {
-  thread = thread_at es i;
-  place = place_at es i;
-  kind = kind_at es i;
-  subject = subject_at es i;
-  value = value_at es i;
+  event = slice_index_or es i blank;
   source = source es i i;
   clock = map (clock_at es i) (range_with_len 0 8);
 }

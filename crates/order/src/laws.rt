@@ -8,62 +8,48 @@ ghost use Rattle.order.specs.Theorems.{TestsDecide, ScanCounts, WithinClock, Kep
 ghost use Rattle.order.specs.Theorems.{OneMap, EqualMaps, FollowRules, SourceRules, WaitsMove};
 
 // What noting makes sure of.
-pub fn noted_lists() -> u8
+pub fn noted_lists()
     ensures sound { NotedSound }
     ensures allowed { NotedAllowed }
     ensures decided { NotedDecided }
     ensures opened { OpenedWithin }
-{
-    0
-}
+{}
 
 // Consistent runs are the paths of cuts.
-pub fn runs() -> u8
+pub fn runs()
     ensures accepted { AcceptedRuns }
     ensures paths { PathRuns }
     ensures one { OneRun }
     ensures noted { NotedRun }
     ensures real { RealRuns }
-{
-    0
-}
+{}
 
 // The tests decide the definitions.
-pub fn tests() -> u8
+pub fn tests()
     ensures { TestsDecide }
-{
-    0
-}
+{}
 
 // Vector clocks count what is before an event.
-pub fn clocks() -> u8
+pub fn clocks()
     ensures scanned { ScanCounts }
     ensures within { WithinClock }
     ensures kept { KeptCounts }
-{
-    0
-}
+{}
 
 // Maps tell which noted lists are runs of each other.
-pub fn maps() -> u8
+pub fn maps()
     ensures one { OneMap }
     ensures equal { EqualMaps }
-{
-    0
-}
+{}
 
 // What an event waits for.
-pub fn following() -> u8
+pub fn following()
     ensures rules { FollowRules }
     ensures sources { SourceRules }
     ensures waits { WaitsMove }
-{
-    0
-}
+{}
 
 // The tests compute what they should of small traces.
-pub fn examples() -> u8
+pub fn examples()
     ensures { worked ≡ true }
-{
-    0
-}
+{}

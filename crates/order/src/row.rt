@@ -1,15 +1,12 @@
 // A row of a trace's map.
+use events::Event;
 
 // What the map says of one event: the event; the thread and the place of the event that feeds it,
 // or `NO_SOURCE` where nothing does; and for each thread how many of its events are this one or
 // before it.
 #[derive(Clone, Copy, Debug)]
 pub struct Row {
-    pub thread: u8,
-    pub place: u8,
-    pub kind: u8,
-    pub subject: u8,
-    pub value: i32,
+    pub event: Event,
     pub source: (u8, u8),
     pub clock: [u8; 8],
 }
@@ -20,11 +17,7 @@ impl Row {
 
     // A row that stands for no event, with which tables are made.
     pub const BLANK: Row = Row {
-        thread: 0,
-        place: 0,
-        kind: 0,
-        subject: 0,
-        value: 0,
+        event: Event::BLANK,
         source: (0, 0),
         clock: [0; 8],
     };

@@ -6,48 +6,36 @@ ghost use Rattle.pairs.specs.Theorems.{FullByCounts, FullBySum, SystemsAgree, Pa
 ghost use Rattle.pairs.specs.Examples.{worked};
 
 // The pairs are a system in levels, and a test tells whether two are equal.
-pub fn levels() -> u8
+pub fn levels()
     ensures levelled { PairsLevelled }
     ensures told { PairsTold }
-{
-    0
-}
+{}
 
 // The paths of pairs are the paths of cuts, and those to a full cut the consistent runs.
-pub fn paths() -> u8
+pub fn paths()
     ensures step { PairsStep }
     ensures reach { PairsReach }
     ensures runs { PairsPaths }
-{
-    0
-}
+{}
 
 // A pair's cut is full just if its counts are those of the trace.
-pub fn full_cuts() -> u8
+pub fn full_cuts()
     ensures counts { FullByCounts }
     ensures sum { FullBySum }
-{
-    0
-}
+{}
 
 // Of two systems that agree on all that can be reached, a room holds the same rows.
-pub fn agreement<N>() -> u8
+pub fn agreement<N>()
     ensures { SystemsAgree N }
-{
-    0
-}
+{}
 
 // What the rows of a listing, or of a room, say of the consistent runs.
-pub fn judgement() -> u8
+pub fn judgement()
     ensures listing { PairsJudged }
     ensures room { RoomJudged }
-{
-    0
-}
+{}
 
 // The pairs of small traces, by computation.
-pub fn examples() -> u8
+pub fn examples()
     ensures { worked ≡ true }
-{
-    0
-}
+{}

@@ -2,5 +2,5 @@ use Rattle.mapping.proofs.Filled.{Filled}
 use Rattle.mapping.proofs.writing.fill.Given as goal
 
 -- the tables and the rows of the events so far
-abbrev pub invariant-loop-k : goal.invariant-loop-k
-invariant-loop-k l = Filled l.events l.k l.clocks l.sources l.rows l.initial.rows
+abbrev pub invariant-loop-event : goal.invariant-loop-event
+invariant-loop-event l = Filled l.events l.event-index l.latest l.rows l.initial.rows

@@ -1,7 +1,0 @@
-use Rattle.std.proofs.Common.{◌≡◌, ℕ, ◌<◌, length, get_or}
-use Rattle.mapping.specs.Rows.{base}
-use Rattle.mapping.proofs.places.bases.Given as goal
-
--- the bases below t are written, and ahead is the next
-abbrev pub invariant-loop-t : goal.invariant-loop-t
-invariant-loop-t l = (length l.bases ≡ 8) × (l.ahead ≡ base l.events l.t) × ((u : ℕ) → u < l.t → get_or l.bases u 0 ≡ base l.events u)

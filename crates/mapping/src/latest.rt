@@ -1,0 +1,86 @@
+// What the row of the next event is made from.
+ghost use Rattle.std.specs.Prelude.{◌≡◌, ℕ, ◌<◌, None, replicate, slice_index, slice_index_or, slice_set};
+ghost use Rattle.order.specs.Clocks.{tick};
+ghost use Rattle.mapping.specs.Rows.{Bounded};
+ghost use Rattle.mapping.specs.Latest.{feeder, source_of, met, thread_clock, with_write, with_acquire};
+
+use crate::clocks::{joined, ticked};
+use events::{Event, Kind};
+use order::Row;
+
+// Each thread's clock, and the rows of the latest write of each variable and of the latest acquire of
+// each lock.
+#[derive(Drop)]
+pub(crate) struct Latest {
+    pub(crate) clocks: [[u8; 8]; 8],
+    pub(crate) writes: [Option<Row>; 32],
+    pub(crate) acquires: [Option<Row>; 16],
+}
+
+impl Latest {
+    // Those of no event.
+    pub(crate) fn none() -> Latest
+        ensures clocks { result.clocks ≡ replicate 8 (replicate 8 0) }
+        ensures writes { result.writes ≡ replicate 32 None }
+        ensures acquires { result.acquires ≡ replicate 16 None }
+    {
+        Latest {
+            clocks: [[0; 8]; 8],
+            writes: [None; 32],
+            acquires: [None; 16],
+        }
+    }
+
+    // The row of what feeds the event: the latest write of its variable a read, the latest acquire of
+    // its lock a release.
+    fn feeder(&self, event: Event) -> Option<Row>
+        requires { Bounded event }
+        ensures { result ≡ feeder self.now event }
+    {
+        match Kind::of(event.kind) {
+            Some(Kind::Read) => self.writes[event.subject as usize],
+            Some(Kind::Release) => self.acquires[event.subject as usize],
+            _ => None,
+        }
+    }
+
+    // The row of the event. Its clock is its thread's with one more, joined with the clock of what feeds
+    // it.
+    pub(crate) fn row(&self, event: Event) -> Row
+        requires bounded { Bounded event }
+        requires room { slice_index (thread_clock self.now event) event.thread < 255 }
+        ensures event { result.event ≡ event }
+        ensures source { result.source ≡ source_of (feeder self.now event) }
+        ensures clock { (j : ℕ) → j < 8 → slice_index result.clock j ≡ met (feeder self.now event) j (tick event.thread (λ u. slice_index (thread_clock self.now event) u) j) }
+    {
+        let own = ticked(self.clocks[event.thread as usize], event.thread);
+        match self.feeder(event) {
+            Some(fed_by) => Row {
+                event,
+                source: (fed_by.event.thread, fed_by.event.place),
+                clock: joined(own, fed_by.clock),
+            },
+            None => Row {
+                event,
+                source: Row::NO_SOURCE,
+                clock: own,
+            },
+        }
+    }
+
+    // Takes in the row of an event.
+    pub(crate) fn note(&mut self, row: Row)
+        requires { Bounded row.event }
+        ensures clocks { self.new.clocks ≡ slice_set self.old.clocks row.event.thread row.clock }
+        ensures writes { self.new.writes ≡ with_write self.old.writes row }
+        ensures acquires { self.new.acquires ≡ with_acquire self.old.acquires row }
+    {
+        let Row { event, clock, .. } = row;
+        self.clocks[event.thread as usize] = clock;
+        match Kind::of(event.kind) {
+            Some(Kind::Write) => self.writes[event.subject as usize] = Some(row),
+            Some(Kind::Acquire) => self.acquires[event.subject as usize] = Some(row),
+            _ => {}
+        }
+    }
+}
