@@ -45,6 +45,12 @@ filled_none es s m c a b =
       beyond = refl;
     }
 
+-- event k's row has a position within the rows
+pub record Stands (es : List Event) (k : ℕ) (bases : List ℕ) (m : List Row) : Type 0 where
+  pub place : 0 < place_at es k
+  pub among : get_or bases (thread_at es k) 0 + place_at es k ≤ length es
+  pub within : get_or bases (thread_at es k) 0 + place_at es k - 1 < length m
+
 module _ (es : List Event) (fit : Mappable es) (k : ℕ) (h : k < length es) (s : Latest) (m before : List Row) (a : Filled es k s m before) where
   few : thread_at es k < 8
   few = threads_few es fit k h
@@ -84,15 +90,13 @@ module _ (es : List Event) (fit : Mappable es) (k : ℕ) (h : k < length es) (s 
     position : get_or bases (thread_at es k) 0 + place_at es k ≡ suc (spot es k)
     position = position_is es fit.sound bases hb k h few (thread_at es k, place_at es k) refl refl
 
-    -- the event's row has a position within the rows
-    pub stands : (0 < place_at es k) × (get_or bases (thread_at es k) 0 + place_at es k ≤ length es)
-        × (get_or bases (thread_at es k) 0 + place_at es k - 1 < length m)
+    pub stands : Stands es k bases m
     stands =
         let p = position in
         let r = spot_below es 8 (threads_few es fit) k h in
         let g = fit.sound.places k h in
         let z = a.size in
-        (omega (arith, g), omega (arith, p, r), omega (arith, p, r, z, room))
+        record { place = omega (arith, g); among = omega (arith, p, r); within = omega (arith, p, r, z, room) }
 
     pub filled_next : (s' : Latest) (m' : List Row) (w : Row) (p : ℕ) → Written es k w
         → s'.clocks ≡ set s.clocks w.event.thread w.clock → s'.writes ≡ with_write s.writes w → s'.acquires ≡ with_acquire s.acquires w

@@ -37,9 +37,9 @@ impl Latest {
         requires { Bounded event }
         ensures { result ≡ feeder self.now event }
     {
-        match Kind::of(event.kind) {
-            Some(Kind::Read) => self.writes[event.subject as usize],
-            Some(Kind::Release) => self.acquires[event.subject as usize],
+        match Kind::try_from(event.kind) {
+            Ok(Kind::Read) => self.writes[event.subject as usize],
+            Ok(Kind::Release) => self.acquires[event.subject as usize],
             _ => None,
         }
     }
@@ -77,9 +77,9 @@ impl Latest {
     {
         let Row { event, clock, .. } = row;
         self.clocks[event.thread as usize] = clock;
-        match Kind::of(event.kind) {
-            Some(Kind::Write) => self.writes[event.subject as usize] = Some(row),
-            Some(Kind::Acquire) => self.acquires[event.subject as usize] = Some(row),
+        match Kind::try_from(event.kind) {
+            Ok(Kind::Write) => self.writes[event.subject as usize] = Some(row),
+            Ok(Kind::Acquire) => self.acquires[event.subject as usize] = Some(row),
             _ => {}
         }
     }

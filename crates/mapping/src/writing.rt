@@ -25,7 +25,8 @@ fn fill(events: &[Event], rows: &mut [Row])
     for event in events {
         let row = latest.row(*event);
         latest.note(row);
-        rows[bases.position(*event)] = row;
+        let at = bases.position(*event);
+        rows[at] = row;
     }
 }
 

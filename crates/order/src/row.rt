@@ -12,7 +12,8 @@ pub struct Row {
 }
 
 impl Row {
-    // What stands for the source of an event that nothing feeds.
+    // What stands for the source of an event that nothing feeds. It stays a pair of numbers: users
+    // read a map's rows in this form.
     pub const NO_SOURCE: (u8, u8) = (255, 0);
 
     // A row that stands for no event, with which tables are made.

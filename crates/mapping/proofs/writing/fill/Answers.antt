@@ -1,5 +1,6 @@
 use Rattle.std.proofs.Common.{refl, arith}
-use Rattle.mapping.proofs.Filled.{filled_none, small, row_here, stands, filled_next, filled_map}
+use Rattle.mapping.proofs.Filled.{filled_none, small, row_here, Stands, stands, filled_next, filled_map}
+use Rattle.mapping.proofs.writing.fill.Goals.{After-note}
 use Rattle.mapping.proofs.writing.fill.Goals as goal
 
 pub loop-event-init : goal.loop-event-init
@@ -11,30 +12,31 @@ pub row-row-requires-clause-room : goal.row-row-requires-clause-room
 row-row-requires-clause-room c =
     small c.args.events.now c.requires.fit c.loop-event.event-index c.loop-event-test.true c.loop-event.latest c.loop-event.rows c.args.rows.now c.loop-event.invariant
 
-pub position-requires-clause-fits : goal.position-requires-clause-fits
-position-requires-clause-fits c =
-    let x = stands c.args.events.now c.requires.fit c.loop-event.event-index c.loop-event-test.true c.loop-event.latest c.loop-event.rows c.args.rows.now c.loop-event.invariant c.of-bases.result.starts c.of-bases.ensures c.requires.room in
-    omega (arith, x.1, c.well_formed)
+-- where the event's row stands
+here : (c : After-note) → Stands c.args.events.now c.loop-event.event-index c.of-bases.result.starts c.loop-event.rows
+here c =
+    stands c.args.events.now c.requires.fit c.loop-event.event-index c.loop-event-test.true c.loop-event.latest c.loop-event.rows c.args.rows.now c.loop-event.invariant
+    c.of-bases.result.starts c.of-bases.ensures c.requires.room
 
-pub bounds-rows-position : goal.bounds-rows-position
-bounds-rows-position c =
-    let x = stands c.args.events.now c.requires.fit c.loop-event.event-index c.loop-event-test.true c.loop-event.latest c.loop-event.rows c.args.rows.now c.loop-event.invariant c.of-bases.result.starts c.of-bases.ensures c.requires.room in
-    omega (arith, x.2, c.position.ensures)
+pub position-at-requires-clause-fits : goal.position-at-requires-clause-fits
+position-at-requires-clause-fits c = omega (arith, (here (goal.at.position-at-requires-clause-fits c).After-note).among, c.well_formed)
 
-pub offset_bounds-rows-position : goal.offset_bounds-rows-position
-offset_bounds-rows-position c =
-    let x = stands c.args.events.now c.requires.fit c.loop-event.event-index c.loop-event-test.true c.loop-event.latest c.loop-event.rows c.args.rows.now c.loop-event.invariant c.of-bases.result.starts c.of-bases.ensures c.requires.room in
-    omega (arith, x.2, c.position.ensures, c.loop-event.auto.rows, c.well_formed)
+pub offset_bounds-rows-at : goal.offset_bounds-rows-at
+offset_bounds-rows-at c = omega (arith, (here (goal.at.offset_bounds-rows-at c).After-note).within, c.position-at.ensures, c.loop-event.auto.rows, c.well_formed)
+
+pub bounds-rows-at : goal.bounds-rows-at
+bounds-rows-at c = omega (arith, (here (goal.at.bounds-rows-at c).After-note).within, c.position-at.ensures)
 
 pub loop-event-preserved : goal.loop-event-preserved
 loop-event-preserved c =
     let es = c.args.events.now in
     let k = c.loop-event.event-index in
     let h = c.loop-event-test.true in
+    let before = c.loop-event in
     let row = c.row-row in
-    let here = row_here es c.requires.fit k h c.loop-event.latest c.loop-event.rows c.args.rows.now c.loop-event.invariant row.result row.ensures.event row.ensures.source (omega (arith, row.type_inv)) row.ensures.clock in
-    filled_next es c.requires.fit k h c.loop-event.latest c.loop-event.rows c.args.rows.now c.loop-event.invariant c.of-bases.result.starts c.of-bases.ensures c.requires.room
-    c.note.new.self _ row.result c.position.result here c.note.ensures.clocks c.note.ensures.writes c.note.ensures.acquires c.position.ensures refl
+    let written = row_here es c.requires.fit k h before.latest before.rows c.args.rows.now before.invariant row.result row.ensures.event row.ensures.source (omega (arith, row.type_inv)) row.ensures.clock in
+    filled_next es c.requires.fit k h before.latest before.rows c.args.rows.now before.invariant c.of-bases.result.starts c.of-bases.ensures c.requires.room
+    c.note.new.self _ row.result c.position-at.result written c.note.ensures.clocks c.note.ensures.writes c.note.ensures.acquires c.position-at.ensures refl
 
 pub returns-clause-map : goal.returns-clause-map
 returns-clause-map c =
