@@ -26,8 +26,10 @@ impl Model for Starts {
 }
 
 impl Starts {
+    ghost use Rattle.events.specs.Starts.{filled};
+
     // No values.
-    pub const fn none() -> Starts
+    pub fn none() -> Starts
         ensures { result ≡ [] }
     {
         Starts {
@@ -66,6 +68,13 @@ impl Starts {
         ensures { result.now ≡ self.now }
     {
         &self.values[..self.count]
+    }
+
+    // The values, and 0 beyond them.
+    pub fn table(&self) -> [i32; 32]
+        ensures { result ≡ filled self.now }
+    {
+        self.values
     }
 
     // The value of a variable, if there is that variable.

@@ -1,7 +1,7 @@
 -- What a state refuses is what the trace's opening and its noted events refuse.
-use Rattle.std.proofs.Common.{◌≡◌, ℕ, ◌<◌, Bool, true, false, cond, not, ◌&&◌, eqb, ltb, leb, List, [], ◌∷◌, length, get_or, take, ℤ, is_some, Some, None, Option, sym, refl, ap, ◌∙◌, arith}
+use Rattle.std.proofs.Common.{◌≡◌, ℕ, ◌<◌, Bool, true, false, cond, not, ◌&&◌, eqb, ltb, leb, List, [], ◌∷◌, length, get_or, ℤ, Some, Ok, Err, Result, sym, refl, ap, ◌∙◌, arith}
 use Rattle.std.proofs.lemmas.List.{length-take-le}
-use Rattle.std.proofs.lemmas.Bool.{eqb-true, leb-false}
+use Rattle.std.proofs.lemmas.Bool.{eqb-true, leb-false, false≢true}
 use Rattle.std.proofs.lemmas.Bool.Decides.{nat_tests}
 use Rattle.events.specs.declared.event.Action.{Action}
 use Rattle.events.specs.declared.event.Event.{Event}
@@ -9,12 +9,15 @@ use Rattle.events.specs.declared.lock.Lock.{Lock}
 use Rattle.events.specs.declared.lock.Lock.TheVariants.{Free}
 use Rattle.events.specs.declared.refusal.OpenRefusal.{OpenRefusal}
 use Rattle.events.specs.First.{first_fit}
-use Rattle.events.specs.Noting.{Opening, opened_as, is_void, subjects, eq_z, free, held_by, lock_now, note_tests, refused}
+use Rattle.events.specs.Noting.{Opening, is_void, subjects, eq_z, free, held_by, lock_now, note_tests, refused}
 use Rattle.rows.specs.declared.list.Rows.{Rows}
 use Rattle.rows.specs.Listed.{lent, count, listed, roomy}
+use Rattle.trace.specs.declared.setting.Setting.{Setting}
 use Rattle.trace.specs.declared.state.State.{State}
+use Rattle.trace.specs.Settings.{opening_with}
 use Rattle.trace.specs.Fields.{opening_in}
-use Rattle.trace.specs.Steps.{subjects_in, step_tests}
+use Rattle.trace.specs.Steps.{opening_but_rows, step_tests}
+use Rattle.trace.proofs.Bounds.{few_threads, same_void, same_threads, same_starts}
 use Rattle.trace.proofs.Invariant.{Kept, same_lock_lem}
 
 -- Two lists of reasons are alike where their tests agree, each wherever those ahead of it fail.
@@ -35,13 +38,10 @@ both : (b x y : Bool) → (b ≡ true → x ≡ y) → (b && x) ≡ (b && y)
 both true x y f = f refl
 both false x y f = refl
 
-void_is : (v : Option OpenRefusal) (t : ℕ) (xs : List ℤ) (n : ℕ) → is_void (opened_as v t xs n) ≡ is_some v
-void_is (Some why) t xs n = refl
-void_is None t xs n = refl
-
-room_is : (v : Option OpenRefusal) (t : ℕ) (xs : List ℤ) (n : ℕ) → is_void (opened_as v t xs n) ≡ false → (opened_as v t xs n).room ≡ n
-room_is (Some why) t xs n h = let z : ◌≡◌ {A = ℕ} 0 1 = cc in absurd (omega arith)
-room_is None t xs n h = refl
+-- where there is a setting, there is room for as many rows as are lent
+room_is : (x : Result Setting OpenRefusal) (n : ℕ) → is_void (opening_with x n) ≡ false → (opening_with x n).room ≡ n
+room_is (Ok g) n h = refl
+room_is (Err why) n h = absurd (false≢true (sym h))
 
 -- a read's subject is a variable, and that of a lock's event a lock
 read_subjects : (o : Opening) (k : ℕ) → eqb k 1 ≡ true → subjects o k ≡ length o.starts
@@ -58,26 +58,27 @@ pub refused_is : (s : State) (rows : Rows Event) (a : Action) → Kept s rows
 refused_is s rows a k =
     let o = opening_in s rows in
     let es = listed rows in
-    let many : subjects o a.kind ≡ subjects_in s a.kind = ap (λ (n : ℕ). cond (eqb a.kind 0) 32 (cond (ltb a.kind 3) n 16)) k.variables_are in
+    let all = length (lent rows) in
+    let many : subjects o a.kind ≡ subjects (opening_but_rows s) a.kind = ap (λ (xs : List ℤ). cond (eqb a.kind 0) 32 (cond (ltb a.kind 3) (length xs) 16)) (same_starts s.setting all 0) in
     alike_first (note_tests o es a) (step_tests s (roomy rows) a)
-    (agree (void_is s.void s.threads (take s.variables s.starts) (length (lent rows)))
-    (λ opened. agree (ap (λ (n : ℕ). leb n a.thread) k.threads_are)
+    (agree (same_void s.setting all 0)
+    (λ opened. agree (ap (λ (n : ℕ). leb n a.thread) (same_threads s.setting all 0))
     (λ thread. agree refl
     (λ kind. agree (ap (λ (n : ℕ). leb n a.subject) many)
     (λ subject.
     let below : a.subject < subjects o a.kind = leb-false (subjects o a.kind) a.subject subject in
-    let mine : a.thread < 8 = omega (arith, leb-false o.threads a.thread thread, k.threads_are, k.few_threads) in
+    let mine : a.thread < 8 = omega (arith, leb-false o.threads a.thread thread, few_threads s.setting all) in
     let lock : a.subject < 16 → lock_now es a.subject ≡ get_or s.locks a.subject Free = λ h. sym (same_lock_lem (get_or s.locks a.subject Free) (lock_now es a.subject) (k.locked a.subject h)) in
     agree refl
     (λ zero. agree
-    (both (eqb a.kind 1) _ _ (λ e. ap (λ (v : ℤ). not (eq_z a.value v)) (sym (k.valued a.subject (omega (arith, read_subjects o a.kind e, k.variables_are, below))))))
+    (both (eqb a.kind 1) _ _ (λ e. ap (λ (v : ℤ). not (eq_z a.value v)) (sym (k.valued a.subject (omega (arith, read_subjects o a.kind e, below))))))
     (λ read. agree
     (both (eqb a.kind 3) _ _ (λ e. ap (λ (l : Lock). not (free l)) (lock (omega (arith, acquire_subjects o a.kind e, below)))))
     (λ held. agree
     (both (eqb a.kind 4) _ _ (λ e. ap (λ (l : Lock). not (held_by a.thread l)) (lock (omega (arith, release_subjects o a.kind e, below)))))
     (λ holder. agree (ap (leb 255) (sym (k.counted a.thread mine)))
     (λ full. agree
-    (rows_are o.room (length es) (count rows) (length (lent rows)) (room_is s.void s.threads (take s.variables s.starts) (length (lent rows)) opened) (length-take-le (count rows) (lent rows) k.few_events))
+    (rows_are o.room (length es) (count rows) (length (lent rows)) (room_is s.setting all opened) (length-take-le (count rows) (lent rows) rows.within))
     (λ none. done)))))))))))
   where
     rows_are : (room n len all : ℕ) → room ≡ all → n ≡ len → leb room n ≡ not (ltb len all)

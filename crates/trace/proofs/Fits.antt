@@ -1,5 +1,5 @@
 -- The first reason that fits, over parts of a list of reasons.
-use Rattle.std.proofs.Common.{◌≡◌, ℕ, Bool, true, false, cond, leb, List, [], ◌∷◌, ◌++◌, get_or, ℤ, Some, None, Ok, Err, Option, sym, refl, ap, ◌∙◌, arith}
+use Rattle.std.proofs.Common.{◌≡◌, ℕ, Bool, true, false, cond, leb, List, [], ◌∷◌, ◌++◌, get_or, Some, None, Ok, Err, Option, sym, refl, ap, ◌∙◌, arith}
 use Rattle.events.specs.declared.event.Action.{Action}
 use Rattle.events.specs.declared.lock.Lock.TheVariants.{Free}
 use Rattle.events.specs.declared.refusal.Refusal.{Refusal}
@@ -67,30 +67,28 @@ weighed s spare a = value_tests s a.kind a.subject a.value ++ later s spare a
 pub step_form : (s : State) (spare : Bool) (a : Action) (why : Refusal) → first_fit (form_tests s a) ≡ Some why → first_fit (step_tests s spare a) ≡ Some why
 step_form s spare a why h = fit_here (form_tests s a) (weighed s spare a) why h
 
--- where that is right, for its value v; k is the number of its kind
-pub step_value : (s : State) (spare : Bool) (a : Action) (k : ℕ) (v : ℤ) (why : Refusal) → first_fit (form_tests s a) ≡ None → k ≡ a.kind → v ≡ a.value
-    → Err why ≡ told (first_fit (value_tests s k a.subject v))
+-- where that is right, for its value; k is the number of its kind
+pub step_value : (s : State) (spare : Bool) (a : Action) (k : ℕ) (why : Refusal) → first_fit (form_tests s a) ≡ None → k ≡ a.kind
+    → Err why ≡ told (first_fit (value_tests s k a.subject a.value))
     → first_fit (step_tests s spare a) ≡ Some why
-step_value s spare a k v why form kind same h =
+step_value s spare a k why form kind h =
     fit_later (form_tests s a) (weighed s spare a) form
     ∙ fit_here (value_tests s a.kind a.subject a.value) (later s spare a) why
     (ap (λ (n : ℕ). first_fit (value_tests s n a.subject a.value)) (sym kind)
-    ∙ ap (λ (w : ℤ). first_fit (value_tests s k a.subject w)) (sym same)
-    ∙ told_err (first_fit (value_tests s k a.subject v)) why h)
+    ∙ told_err (first_fit (value_tests s k a.subject a.value)) why h)
 
 -- where form and value are right, by its lock or for want of room
-pub step_lock : (s : State) (spare : Bool) (a : Action) (k : ℕ) (v : ℤ) (x : Unit {0}) → first_fit (form_tests s a) ≡ None → k ≡ a.kind → v ≡ a.value
-    → Ok x ≡ told (first_fit (value_tests s k a.subject v))
+pub step_lock : (s : State) (spare : Bool) (a : Action) (k : ℕ) (x : Unit {0}) → first_fit (form_tests s a) ≡ None → k ≡ a.kind
+    → Ok x ≡ told (first_fit (value_tests s k a.subject a.value))
     → or_else (first_fit (lock_tests (get_or s.locks a.subject Free) k a.thread)) (told (first_fit (room_tests s spare a.thread))) ≡ told (first_fit (step_tests s spare a))
-step_lock s spare a k v x form kind same value =
+step_lock s spare a k x form kind value =
     ap (λ (n : ℕ). or_else (first_fit (lock_tests (get_or s.locks a.subject Free) n a.thread)) (told (first_fit (room_tests s spare a.thread)))) kind
     ∙ else_told (lock_tests (get_or s.locks a.subject Free) a.kind a.thread) (room_tests s spare a.thread)
     ∙ ap told (sym
     (fit_later (form_tests s a) (weighed s spare a) form
     ∙ fit_later (value_tests s a.kind a.subject a.value) (later s spare a)
     (ap (λ (n : ℕ). first_fit (value_tests s n a.subject a.value)) (sym kind)
-    ∙ ap (λ (w : ℤ). first_fit (value_tests s k a.subject w)) (sym same)
-    ∙ told_ok (first_fit (value_tests s k a.subject v)) x value)))
+    ∙ told_ok (first_fit (value_tests s k a.subject a.value)) x value)))
 
 -- a step that is not refused has a spare row
 pub step_spare : (s : State) (spare : Bool) (a : Action) → first_fit (step_tests s spare a) ≡ None → spare ≡ true

@@ -1,5 +1,5 @@
 -- The invariant once an accepted action is taken in.
-use Rattle.std.proofs.Common.{◌≡◌, ℕ, suc, ◌<◌, ◌≤◌, Bool, true, false, cond, ◌&&◌, eqb, List, [], ◌∷◌, ◌++◌, length, get_or, take, set, ℤ, pos, None, sym, refl, ap, ◌∙◌, ⊎_elim, arith}
+use Rattle.std.proofs.Common.{◌≡◌, ℕ, suc, ◌<◌, Bool, true, false, cond, ◌&&◌, eqb, List, [], ◌∷◌, ◌++◌, length, get_or, set, ℤ, pos, None, sym, refl, ap, ◌∙◌, subst, ⊎_elim, arith}
 use Rattle.std.proofs.lemmas.List.{length-set, get_or-set_same, get_or-set_other}
 use Rattle.std.proofs.lemmas.Bool.{cases_eq, eq-eqb, ne_eqb}
 use Rattle.events.specs.declared.event.Action.{Action}
@@ -7,14 +7,16 @@ use Rattle.events.specs.declared.event.Event.{Event}
 use Rattle.events.specs.declared.lock.Lock.{Lock}
 use Rattle.events.specs.declared.lock.Lock.TheVariants.{Free, Held}
 use Rattle.events.specs.Accepted.{accepted}
-use Rattle.events.specs.Noting.{Opening, opened_as, is_of, value_now, lock_now, count_of, refused, noting}
+use Rattle.events.specs.Noting.{Opening, is_of, value_now, lock_now, count_of, refused, noting}
 use Rattle.events.proofs.Pushes.{latest_push, lock_after_push, count_of_push}
 use Rattle.events.proofs.Accepted.{accepted_push}
 use Rattle.rows.specs.declared.list.Rows.{Rows}
-use Rattle.rows.specs.Listed.{lent, count, listed}
+use Rattle.rows.specs.Listed.{lent, listed}
 use Rattle.trace.specs.declared.state.State.{State}
+use Rattle.trace.specs.Settings.{opening_with}
 use Rattle.trace.specs.Fields.{opening_in}
 use Rattle.trace.specs.Steps.{lock_by, stepped}
+use Rattle.trace.proofs.Bounds.{few_starts}
 use Rattle.trace.proofs.Invariant.{Kept, same_lock_lem, lock_same}
 
 -- one entry is changed, and the others stay
@@ -45,29 +47,25 @@ two_ways false c true x y z = one_way c true y z
 two_ways false c false x y z = one_way c false y z
 
 pub kept_more : (s : State) (rows rows' : Rows Event) (a : Action) → Kept s rows → refused (opening_in s rows) (listed rows) a ≡ None
-    → listed rows' ≡ listed rows ++ noting (listed rows) a ∷ [] → length (lent rows') ≡ length (lent rows) → count rows' ≤ length (lent rows')
+    → listed rows' ≡ listed rows ++ noting (listed rows) a ∷ [] → length (lent rows') ≡ length (lent rows)
     → Kept (stepped s a) rows'
-kept_more s rows rows' a k ok more room within =
+kept_more s rows rows' a k ok more room =
     let nv = k.values_size in
     let nl = k.locks_size in
     let nc = k.counts_size in
     let es = listed rows in
     let e = noting es a in
     let o = opening_in s rows in
-    let same : opening_in (stepped s a) rows' ≡ o = ap (λ (n : ℕ). opened_as s.void s.threads (take s.variables s.starts) n) room in
+    let same : opening_in (stepped s a) rows' ≡ o = ap (opening_with s.setting) room in
+    let few = few_starts s.setting (length (lent rows')) in
     record {
-      few_threads = k.few_threads;
-      few_variables = k.few_variables;
-      few_events = within;
       values_size = length-set s.values a.subject _ ∙ nv;
       locks_size = length-set s.locks a.subject _ ∙ nl;
       counts_size = length-set s.counts a.thread _ ∙ nc;
-      threads_are = ap (λ (p : Opening). p.threads) same ∙ k.threads_are;
-      variables_are = ap (λ (p : Opening). length p.starts) same ∙ k.variables_are;
       valued = λ x h.
-          set_entry s.values a.subject x (pos 0) (λ (v : ℤ). cond (eqb a.kind 2) a.value v) (omega (arith, k.few_variables))
+          set_entry s.values a.subject x (pos 0) (λ (v : ℤ). cond (eqb a.kind 2) a.value v) (omega arith)
           ∙ one_way (eqb a.kind 2) (eqb a.subject x) a.value (get_or s.values x (pos 0))
-          ∙ ap (λ (v : ℤ). cond (is_of 2 x e) a.value v) (k.valued x h)
+          ∙ ap (λ (v : ℤ). cond (is_of 2 x e) a.value v) (k.valued x (subst (λ (p : Opening). x < length p.starts) same h))
           ∙ sym (latest_push (get_or o.starts x (pos 0)) x es e)
           ∙ ap (λ (ds : List Event). value_now o ds x) (sym more)
           ∙ ap (λ (p : Opening). value_now p (listed rows') x) (sym same);

@@ -1,3 +1,4 @@
+pub mod Bounds
 pub mod Invariant
 pub mod Changes
 pub mod Fits

@@ -1,20 +1,21 @@
 -- What a trace's fields say, and when they are what the opening and the noted events make them.
-use Rattle.std.specs.Prelude.{◌≡◌, ℕ, ◌<◌, Bool, true, false, List, length, take, ℤ, pos, ◌==◌, slice_index, slice_index_or}
+use Rattle.std.specs.Prelude.{◌≡◌, ℕ, ◌<◌, Bool, true, false, List, length, ℤ, pos, ◌==◌, slice_index, slice_index_or}
 use Rattle.events.specs.declared.event.Event.{Event}
 use Rattle.events.specs.declared.lock.Lock.{Lock}
 use Rattle.events.specs.declared.lock.Lock.TheVariants.{Free, Held}
-use Rattle.events.specs.Noting.{Opening, opened_as, value_now, lock_now, count_of}
+use Rattle.events.specs.Noting.{Opening, value_now, lock_now, count_of}
 use Rattle.rows.specs.declared.list.Rows.{Rows}
 use Rattle.rows.specs.Listed.{lent}
+use Rattle.trace.specs.Settings.{opening_with}
 use Rattle.trace.specs.declared.state.State.{State}
 
 -- what the trace was opened with
 abbrev pub opening_in : State → Rows Event → Opening
-opening_in s rows = opened_as s.void s.threads (take s.variables s.starts) (length (lent rows))
+opening_in s rows = opening_with s.setting (length (lent rows))
 
--- each of the n variables has its value after the events
-abbrev pub Valued : Opening → List Event → ℕ → List ℤ → Type 0
-Valued o es n values = (x : ℕ) → x < n → slice_index_or values x (pos 0) ≡ value_now o es x
+-- each variable has its value after the events
+abbrev pub Valued : Opening → List Event → List ℤ → Type 0
+Valued o es values = (x : ℕ) → x < length o.starts → slice_index_or values x (pos 0) ≡ value_now o es x
 
 abbrev pub same_lock : Lock → Lock → Bool
 same_lock Free Free = true

@@ -1,3 +1,4 @@
+pub mod Settings
 pub mod Fields
 pub mod Steps
 pub mod Meaning

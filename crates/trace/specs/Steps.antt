@@ -1,5 +1,5 @@
 -- How a state takes in an action: why it refuses, and what it becomes.
-use Rattle.std.specs.Prelude.{◌≡◌, ℕ, suc, ◌<◌, Bool, cond, not, ◌&&◌, List, [], ◌∷◌, ◌++◌, ℤ, pos, is_some, Some, None, Ok, Err, Option, Result, ◌==◌, nat_le, nat_lt, slice_index, slice_index_or, slice_set}
+use Rattle.std.specs.Prelude.{◌≡◌, ℕ, suc, ◌<◌, Bool, cond, not, ◌&&◌, List, [], ◌∷◌, ◌++◌, ℤ, pos, Some, None, Ok, Err, Option, Result, ◌==◌, nat_le, nat_lt, slice_index, slice_index_or, slice_set}
 use Rattle.events.specs.declared.event.Action.{Action}
 use Rattle.events.specs.declared.kind.Kind.{Kind}
 use Rattle.events.specs.declared.lock.Lock.{Lock}
@@ -8,20 +8,25 @@ use Rattle.events.specs.declared.refusal.Refusal.{Refusal}
 use Rattle.events.specs.declared.refusal.Refusal.TheVariants as refusal
 use Rattle.events.specs.First.{first_fit}
 use Rattle.events.specs.Kinds.{kind_number}
-use Rattle.events.specs.Noting.{eq_z, free, held_by}
+use Rattle.events.specs.Noting.{Opening, is_void, subjects, eq_z, free, held_by}
+use Rattle.trace.specs.Settings.{opening_with}
 use Rattle.trace.specs.declared.state.State.{State}
 
--- how many subjects a kind has: labels, variables or locks
-abbrev pub subjects_in : State → ℕ → ℕ
-subjects_in s k = cond (k == 0) 32 (cond (nat_lt k 3) s.variables 16)
+-- what the trace was opened with, but for its rows
+abbrev pub opening_but_rows : State → Opening
+opening_but_rows s = opening_with s.setting 0
+
+-- no trace has more labels, variables or locks for a kind
+abbrev pub most_subjects : ℕ → ℕ
+most_subjects k = cond (nat_lt k 3) 32 16
 
 -- why an action is refused for its form: numbers 9 to 13
 abbrev pub form_tests : State → Action → List (Bool × Refusal)
 form_tests s a =
-    (is_some s.void, refusal.Void)
-    ∷ (nat_le s.threads a.thread, refusal.Thread)
+    (is_void (opening_but_rows s), refusal.Void)
+    ∷ (nat_le (opening_but_rows s).threads a.thread, refusal.Thread)
     ∷ (nat_lt 4 a.kind, refusal.Kind)
-    ∷ (nat_le (subjects_in s a.kind) a.subject, refusal.Subject)
+    ∷ (nat_le (subjects (opening_but_rows s) a.kind) a.subject, refusal.Subject)
     ∷ []
 
 -- why the value of a kind's event at a subject is refused: numbers 14 and 15
@@ -56,7 +61,7 @@ or_else None later = later
 
 -- the kind of an action that is right in form, or why it is refused
 abbrev pub Admitted : State → Action → Result Kind Refusal → Type 0
-Admitted s a (Ok k) = (first_fit (form_tests s a) ≡ None) × (a.thread < s.threads) × (a.subject < subjects_in s (kind_number k)) × (kind_number k ≡ a.kind)
+Admitted s a (Ok k) = (first_fit (form_tests s a) ≡ None) × (a.thread < 8) × (a.subject < most_subjects (kind_number k)) × (kind_number k ≡ a.kind)
 Admitted s a (Err why) = first_fit (form_tests s a) ≡ Some why
 
 -- the place of an event that is not refused
@@ -77,10 +82,7 @@ lock_by k t l = cond (k == 3) (Held t) (cond (k == 4) Free l)
 abbrev pub changed_to : State → List ℤ → List Lock → State
 changed_to s vs ls =
     record {
-      void = s.void;
-      threads = s.threads;
-      variables = s.variables;
-      starts = s.starts;
+      setting = s.setting;
       values = vs;
       locks = ls;
       counts = s.counts;
@@ -100,10 +102,7 @@ next_place s t = suc (slice_index s.counts t)
 abbrev pub counted : State → ℕ → State
 counted s t =
     record {
-      void = s.void;
-      threads = s.threads;
-      variables = s.variables;
-      starts = s.starts;
+      setting = s.setting;
       values = s.values;
       locks = s.locks;
       counts = slice_set s.counts t (next_place s t);

@@ -2,9 +2,9 @@
 // lends.
 #![tactic(auto)]
 
-ghost use Rattle.std.specs.Prelude.{◌≡◌, ◌≤◌, true, length};
+ghost use Rattle.std.specs.Prelude.{◌≡◌, true, length};
 ghost use Rattle.events.specs.Accepted.{accepted};
-ghost use Rattle.rows.specs.Listed.{lent, count, listed};
+ghost use Rattle.rows.specs.Listed.{listed};
 ghost use Rattle.trace.specs.Fields.{opening_in, Valued, Locked, Counted};
 
 pub mod locks;
@@ -12,12 +12,14 @@ pub mod noting;
 pub mod opening;
 pub mod place;
 pub mod reading;
+pub mod setting;
 pub mod state;
 pub mod steps;
 
 use events::Event;
 pub use place::Place;
 use rows::Rows;
+pub use setting::Setting;
 pub use state::State;
 
 // The state is what the opening and the noted events make it, and each event was accepted after
@@ -26,10 +28,8 @@ pub use state::State;
 pub struct Trace<'a> {
     pub(crate) state: State,
     pub(crate) rows: Rows<'a, Event>,
-    ghost within: { (state.threads ≤ 8) × (state.variables ≤ 32) × (count rows ≤ length (lent rows)) },
     ghost sizes: { (length state.values ≡ 32) × (length state.locks ≡ 16) × (length state.counts ≡ 8) },
-    ghost opened: { ((opening_in state rows).threads ≡ state.threads) × (length (opening_in state rows).starts ≡ state.variables) },
-    ghost values: { Valued (opening_in state rows) (listed rows) state.variables state.values },
+    ghost values: { Valued (opening_in state rows) (listed rows) state.values },
     ghost locks: { Locked (listed rows) state.locks },
     ghost counts: { Counted (listed rows) state.counts },
     ghost noted: { accepted (opening_in state rows) (listed rows) ≡ true },

@@ -1,4 +1,5 @@
 // Events are looked up by their place in their thread.
+ghost use Rattle.std.specs.Prelude.{◌≡◌};
 ghost use Rattle.trace.specs.Places.{place_of, is_at};
 ghost use Rattle.trace.specs.Keys.{decides_place};
 
@@ -12,6 +13,18 @@ pub struct Place {
     pub place: u8,
 }
 
+impl Place {
+    // Where the event stands.
+    fn of(event: &Event) -> Place
+        ensures { result ≡ place_of event.now }
+    {
+        Place {
+            thread: event.thread,
+            place: event.place,
+        }
+    }
+}
+
 impl Keyed<Place> for Event {
     ghost keyed = { place_of };
 
@@ -20,6 +33,6 @@ impl Keyed<Place> for Event {
     ghost decides = { decides_place };
 
     fn matches(&self, key: Place) -> bool {
-        self.thread == key.thread && self.place == key.place
+        Place::of(self) == key
     }
 }

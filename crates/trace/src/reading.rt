@@ -13,30 +13,36 @@ impl<'a> Trace<'a> {
     pub fn void(&self) -> Option<OpenRefusal>
         ensures { result ≡ (opening_of self.now).void }
     {
-        self.state.void
+        self.state.setting.err()
     }
 
     // The number of that reason, or 0.
     pub fn number(&self) -> u8
         ensures { result ≡ void_number (opening_of self.now).void }
     {
-        match self.state.void {
-            Some(why) => why.number(),
-            None => 0,
+        match &self.state.setting {
+            Ok(_) => 0,
+            Err(why) => why.number(),
         }
     }
 
     pub fn threads(&self) -> u8
         ensures { result ≡ (opening_of self.now).threads }
     {
-        self.state.threads
+        match &self.state.setting {
+            Ok(setting) => setting.threads,
+            Err(_) => 0,
+        }
     }
 
     // The starting values of the variables.
     pub fn starts(&self) -> &[i32]
         ensures { result.now ≡ (opening_of self.now).starts }
     {
-        &self.state.starts[0..self.state.variables]
+        match &self.state.setting {
+            Ok(setting) => setting.starts.as_slice(),
+            Err(_) => &[],
+        }
     }
 
     // The noted events, in their order: each was accepted after those ahead of it.
@@ -52,9 +58,7 @@ impl<'a> Trace<'a> {
         ensures value { result ≡ event_by (record { thread = thread; place = place }) (noted_of self.now) }
         ensures stands { StandsAt (record { thread = thread; place = place }) (noted_of self.now) result }
     {
-        match self.rows.find(Place { thread, place }) {
-            Some(i) => self.rows.at(i),
-            None => None,
-        }
+        let i = self.rows.find(Place { thread, place })?;
+        self.rows.at(i)
     }
 }

@@ -16,11 +16,11 @@ stands : (p : Place) (es : List Event) (i : ℕ) (r : Option Event) → r ≡ sl
 stands p es i r e f =
     subst (StandsAt p es) (sym (e ∙ slice_get-get_or es i blank f.0)) (f.1 blank, (i, f.0, λ d. get_or_default es i blank d f.0, f.2))
 
-pub returns-in-Some : goal.returns-in-Some
-returns-in-Some c =
+pub returns : goal.returns
+returns c =
     let es = noted_of c.args.self.now in
-    let h = c.in-Some.ensures in
+    let h = c.in_ok-i.ensures in
     record {
       value = c.at.ensures ∙ ap (row_at es) h.value;
-      stands = stands _ es c.in-Some.i c.at.result c.at.ensures h.first;
+      stands = stands _ es c.in_ok-i.i c.at.result c.at.ensures h.first;
     }

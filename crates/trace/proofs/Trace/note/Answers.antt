@@ -1,11 +1,10 @@
-use Rattle.std.proofs.Common.{Option, sym, refl, ap, w32}
+use Rattle.std.proofs.Common.{Option, sym, refl, ap}
 use Rattle.std.proofs.lemmas.Result.{err_from_is_err_and}
-use Rattle.std.proofs.lemmas.Int.{to_z-of_z}
 use Rattle.events.specs.declared.refusal.Refusal.{Refusal}
 use Rattle.events.specs.Noting.{answer, extended}
 use Rattle.trace.specs.declared.state.State.{State}
 use Rattle.trace.specs.Fields.{opening_in}
-use Rattle.trace.specs.Meaning.{noted_of, action_by, rows_after}
+use Rattle.trace.specs.Meaning.{noted_of, rows_after}
 use Rattle.trace.proofs.Notes.{left_all, left_none, note_refuses, note_gives}
 use Rattle.trace.proofs.Trace.note.Goals as goal
 
@@ -13,9 +12,9 @@ pub returns-in_err-place : goal.returns-in_err-place
 returns-in_err-place c =
     let p = err_from_is_err_and c.from_residual.result c.from_residual.ensures.1 in
     let t = c.args.self.now in
-    let a = action_by c.args.thread c.args.kind c.args.subject c.args.value in
+    let a = c.args.action in
     let h = c.in_err-place.ensures in
-    let why = note_refuses t c.args.thread c.args.kind c.args.subject c.args.value _ _ _ _ (to_z-of_z w32 c.args.value c.ranges.value) c.len.ensures c.capacity.ensures h.says in
+    let why = note_refuses t a _ _ _ c.len.ensures c.capacity.ensures h.says in
     rw (p.1, p.2)
     record {
       says = sym (ap (λ (o : Option Refusal). answer o (noted_of t) a) why);
@@ -30,12 +29,10 @@ pub invariant_of-self-2 : goal.invariant_of-self-2
 invariant_of-self-2 c =
     let h = c.in_ok-place.ensures in
     let e = c.push.ensures in
-    let g = note_gives c.args.self.now c.args.thread c.args.kind c.args.subject c.args.value _ _ _ _ c.step.new.self c.push.new.self (to_z-of_z w32 c.args.value c.ranges.value) c.len.ensures c.capacity.ensures h.says h.next e.count e.lent e.listed in
+    let g = note_gives c.args.self.now c.args.action _ _ _ _ c.step.new.self c.push.new.self c.len.ensures c.capacity.ensures h.says h.next c.at-event.ensures e.lent e.listed in
     let k = g.keeps in
     record {
-      within = (k.few_threads, k.few_variables, k.few_events);
       sizes = (k.values_size, k.locks_size, k.counts_size);
-      opened = (k.threads_are, k.variables_are);
       values = k.valued;
       locks = k.locked;
       counts = k.counted;
@@ -46,7 +43,7 @@ pub returns : goal.returns
 returns c =
     let h = c.in_ok-place.ensures in
     let e = c.push.ensures in
-    let g = note_gives c.args.self.now c.args.thread c.args.kind c.args.subject c.args.value _ _ _ _ c.step.new.self c.push.new.self (to_z-of_z w32 c.args.value c.ranges.value) c.len.ensures c.capacity.ensures h.says h.next e.count e.lent e.listed in
+    let g = note_gives c.args.self.now c.args.action _ _ _ _ c.step.new.self c.push.new.self c.len.ensures c.capacity.ensures h.says h.next c.at-event.ensures e.lent e.listed in
     record {
       says = g.says;
       noted = g.noted_is;

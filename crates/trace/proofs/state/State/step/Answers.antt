@@ -1,5 +1,4 @@
-use Rattle.std.proofs.Common.{get_or, Option, Result, sym, refl, ap, ◌∙◌, w32, SFits, rules}
-use Rattle.std.proofs.lemmas.Int.{to_z-of_z}
+use Rattle.std.proofs.Common.{get_or, Option, Result, sym, refl, ap, ◌∙◌}
 use Rattle.std.proofs.lemmas.Result.{err_from_is_err_and}
 use Rattle.events.specs.declared.lock.Lock.TheVariants.{Free}
 use Rattle.events.specs.declared.refusal.Refusal.{Refusal}
@@ -26,10 +25,9 @@ returns-in_err-weigh c =
     let s = c.args.self.now in
     let a = c.args.action in
     let k = c.in_ok-kind.ensures in
-    let fits : SFits w32 c.args.action.value = search rules in
     rw (p.1, p.2)
     record {
-      says = sym (ap (λ (o : Option Refusal). placed o (next_place s a.thread)) (step_value s c.args.spare a (kind_number c.in_ok-kind.kind) _ _ k.0 k.3 (to_z-of_z w32 a.value fits) c.in_err-weigh.ensures));
+      says = sym (ap (λ (o : Option Refusal). placed o (next_place s a.thread)) (step_value s c.args.spare a (kind_number c.in_ok-kind.kind) _ k.0 k.3 c.in_err-weigh.ensures));
       next = refl;
     }
 
@@ -39,11 +37,10 @@ returns-in_err-change c =
     let s = c.args.self.now in
     let a = c.args.action in
     let k = c.in_ok-kind.ensures in
-    let fits : SFits w32 c.args.action.value = search rules in
     let h = c.in_err-change.ensures in
     let all = h.says
     ∙ ap (λ (r : Result (Unit {0}) Refusal). or_else (first_fit (lock_tests (get_or s.locks a.subject Free) (kind_number c.in_ok-kind.kind) a.thread)) r) c.room-room.ensures
-    ∙ step_lock s c.args.spare a (kind_number c.in_ok-kind.kind) _ _ k.0 k.3 (to_z-of_z w32 a.value fits) c.in_ok-weigh.ensures in
+    ∙ step_lock s c.args.spare a (kind_number c.in_ok-kind.kind) _ k.0 k.3 c.in_ok-weigh.ensures in
     rw (p.1, p.2)
     record {
       says = sym (ap (λ (o : Option Refusal). placed o (next_place s a.thread)) (told_err (first_fit (step_tests s c.args.spare a)) _ all));
