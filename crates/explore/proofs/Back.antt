@@ -1,9 +1,9 @@
 -- The way back from a row.
-use Rattle.std.proofs.Common.{◌≡◌, ℕ, zero, suc, ◌<◌, ◌≤◌, Bool, true, false, cond, ltb, List, [], ◌∷◌, map, length, get_or, sym, refl, ap, ◌∙◌, subst, arith}
+use Rattle.std.proofs.Common.{◌≡◌, ℕ, zero, suc, ◌<◌, ◌≤◌, Bool, true, false, cond, ltb, List, [], ◌∷◌, length, get_or, sym, refl, ap, ◌∙◌, arith}
 use Rattle.std.proofs.lemmas.List.{get_or-map}
 use Rattle.std.proofs.lemmas.Bool.{lt-ltb, le-ltb, ltb-true, ltb-false}
 use Rattle.explore.specs.System.{System}
-use Rattle.explore.specs.Rows.{Row, At, row_at, first_row}
+use Rattle.explore.specs.Rows.{Row, row_at, first_row}
 use Rattle.explore.specs.Listing.{Found}
 use Rattle.explore.specs.Paths.{back, froms, labels_of}
 use Rattle.explore.proofs.Places.{row-at}

@@ -1,10 +1,10 @@
 -- Rightly found rows with no step left out are the front of every listing.
-use Rattle.std.proofs.Common.{◌≡◌, ℕ, zero, suc, ◌+◌, ◌-◌, ◌<◌, ◌≤◌, Bool, true, false, leb, ◌⊎◌, List, [], ◌∷◌, ◌++◌, length, get_or, take, Some, None, Option, sym, refl, ap, ◌∙◌, subst, inl, inr, ⊎_elim, arith}
+use Rattle.std.proofs.Common.{◌≡◌, ℕ, zero, suc, ◌<◌, ◌≤◌, true, false, List, length, get_or, take, sym, ap, ◌∙◌, subst, ⊎_elim, arith}
 use Rattle.std.proofs.lemmas.List.{get_or_default, same_lists, length-take-le, get_or-take, take_all}
 use Rattle.std.proofs.lemmas.Bool.{le-leb, lt-leb}
 use Rattle.explore.specs.System.{System, Steps}
-use Rattle.explore.specs.Rows.{Row, At, Has, Lacks, Before, row_at, first_row}
-use Rattle.explore.specs.Listing.{Found, Listing, Passed, Wanting, none, next, Holds}
+use Rattle.explore.specs.Rows.{Row, At, Has, Before, row_at}
+use Rattle.explore.specs.Listing.{Found, Listing, Passed, Wanting, none, next}
 use Rattle.explore.specs.Upto.{Upto}
 use Rattle.explore.specs.Theorems.{RoomHoldsFirst}
 use Rattle.explore.proofs.Places.{at_self, at_same, row-at, le_cases, le_or_lt, NoLater, not-before}

@@ -1,15 +1,15 @@
 -- In levels, the rows that a room holds stand in the order of their least paths.
-use Rattle.std.proofs.Common.{◌≡◌, ℕ, zero, suc, ◌+◌, ◌<◌, ◌≤◌, Bool, true, false, ◌&&◌, eqb, ◌⊎◌, List, [], ◌∷◌, reverse, length, sym, refl, ap, ◌∙◌, subst, inl, inr, ⊎_elim, arith}
+use Rattle.std.proofs.Common.{◌≡◌, ℕ, zero, suc, ◌+◌, ◌<◌, true, ◌&&◌, eqb, ◌⊎◌, List, ◌∷◌, reverse, length, sym, refl, ap, ◌∙◌, subst, inl, inr, ⊎_elim, arith}
 use Rattle.std.proofs.lemmas.Bool.{and_parts, and_from, eqb-true, eq-eqb}
 use Rattle.explore.specs.System.{System, Goes, here, along}
-use Rattle.explore.specs.Rows.{Row, At, row_at}
-use Rattle.explore.specs.Listing.{Found, Listing, Holds}
+use Rattle.explore.specs.Rows.{Row, row_at}
+use Rattle.explore.specs.Listing.{Found, Listing}
 use Rattle.explore.specs.Paths.{back, path, Less, Sooner, Reaches}
-use Rattle.explore.specs.Levels.{Levelled, Tells, Ordered}
+use Rattle.explore.specs.Levels.{Levelled, Ordered}
 use Rattle.explore.specs.Rounds.{computed}
 use Rattle.explore.specs.Theorems.{RowsAreOrdered}
 use Rattle.explore.proofs.Places.{row-at, is_row_at}
-use Rattle.explore.proofs.Back.{way, up, back_none, way_none, way_more}
+use Rattle.explore.proofs.Back.{way, up, way_none, way_more}
 use Rattle.explore.proofs.Fronts.{Front, front}
 use Rattle.explore.proofs.Paths.{reaches}
 use Rattle.explore.proofs.Rounds.{exists}

@@ -1,11 +1,11 @@
 -- A listing has exactly the nodes that can be reached, by their first paths.
-use Rattle.std.proofs.Common.{◌≡◌, ℕ, zero, suc, ◌<◌, ◌≤◌, Bool, true, false, ◌⊎◌, List, [], ◌∷◌, reverse, length, get_or, Some, None, Option, sym, refl, ap, ◌∙◌, subst, inl, inr, ⊎_elim, arith}
+use Rattle.std.proofs.Common.{◌≡◌, ℕ, zero, suc, ◌<◌, ◌≤◌, List, [], ◌∷◌, reverse, length, sym, ap, ◌∙◌, subst, inl, inr, ⊎_elim, arith}
 use mathlib.Core.List.{reverse_aux}
 use native.Mathlib.Decide.{dec_lt}
 use Rattle.explore.specs.System.{System, Steps, Goes, here, along}
-use Rattle.explore.specs.Rows.{Row, At, Has, Before, row_at, first_row}
+use Rattle.explore.specs.Rows.{Row, Before, row_at}
 use Rattle.explore.specs.Listing.{Found, Listing}
-use Rattle.explore.specs.Paths.{path, Sooner, Reaches}
+use Rattle.explore.specs.Paths.{Reaches}
 use Rattle.explore.proofs.Places.{row-at, is_row_at, le_cases, le_or_lt, NoLater, not-before}
 use Rattle.explore.proofs.Words.{Lt, Le, lt-le, le_cons, lt_sooner, le_sooner}
 use Rattle.explore.proofs.Back.{way, up, way_none, way_more, way_enough}

@@ -1,10 +1,10 @@
 -- One step of the way back after the other.
-use Rattle.std.proofs.Common.{◌≡◌, ℕ, zero, suc, ◌+◌, ◌-◌, ◌<◌, ◌≤◌, Bool, true, false, cond, ltb, List, [], ◌∷◌, ◌++◌, map, reverse, length, get_or, drop, set, Some, None, Option, sym, refl, ap, ◌∙◌, subst, arith}
+use Rattle.std.proofs.Common.{◌≡◌, ℕ, zero, suc, ◌+◌, ◌<◌, ◌≤◌, Bool, true, false, cond, ltb, List, [], ◌∷◌, ◌++◌, map, reverse, length, get_or, drop, set, Some, None, sym, refl, ap, ◌∙◌, arith}
 use mathlib.Core.List.{map-map, reverse-cons}
 use Rattle.std.proofs.lemmas.List.{get_or-map, get_or_past, length-map, length-reverse, append_assoc, drop-set}
 use Rattle.std.proofs.lemmas.Bool.{lt-ltb, le-ltb, ltb-true, ltb-false}
 use Rattle.explore.specs.Rows.{Row, At, row_of}
-use Rattle.explore.specs.Paths.{back, path_to, path, froms, labels_of}
+use Rattle.explore.specs.Paths.{back, path_to, path, labels_of}
 use Rattle.explore.specs.Entries.{rows_of}
 use Rattle.explore.specs.ReadBack.{parent_of}
 use Rattle.explore.proofs.Back.{back_stop, back_more, back_enough}

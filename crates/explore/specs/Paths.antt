@@ -1,5 +1,5 @@
 -- Paths, the order among them, and the path by which a row was found.
-use Rattle.std.specs.Prelude.{◌≡◌, ℕ, zero, suc, ◌<◌, ◌≤◌, Bool, true, false, cond, ◌⊎◌, List, [], ◌∷◌, map, reverse, length, ◌≢◌, nat_lt, slice_index, slice_index_or}
+use Rattle.std.specs.Prelude.{◌≡◌, ℕ, zero, suc, ◌<◌, ◌≤◌, Bool, true, cond, ◌⊎◌, List, [], ◌∷◌, map, reverse, length, ◌≢◌, nat_lt, slice_index, slice_index_or}
 use Rattle.explore.specs.System.{System, Goes}
 use Rattle.explore.specs.Rows.{Row, Has, row_at}
 

@@ -1,5 +1,5 @@
 -- Nodes with labelled steps between them.
-use Rattle.std.specs.Prelude.{◌≡◌, ℕ, ◌<◌, List, [], ◌∷◌, Some, None, Option}
+use Rattle.std.specs.Prelude.{◌≡◌, ℕ, ◌<◌, List, [], ◌∷◌, Some, Option}
 
 -- A system: the node where every path begins; the labels, which are the numbers below `labels`; and the node that a label leads to from a
 -- node, if it leads anywhere.

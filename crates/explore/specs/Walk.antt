@@ -1,8 +1,8 @@
 -- A small system, as an example: two steps, each by 0 or 1. A node is the number of steps, times 16, and their sum.
-use Rattle.std.specs.Prelude.{◌≡◌, ℕ, ◌+◌, Bool, cond, ◌&&◌, List, [], ◌∷◌, Some, None, Option, nat_lt}
+use Rattle.std.specs.Prelude.{◌≡◌, ℕ, ◌+◌, cond, ◌&&◌, List, [], ◌∷◌, Some, None, Option, nat_lt}
 use Rattle.explore.specs.System.{System}
 use Rattle.explore.specs.Rows.{Row, row_of}
-use Rattle.explore.specs.Listing.{Listing, Holds}
+use Rattle.explore.specs.Listing.{Listing}
 use Rattle.explore.specs.Paths.{path}
 
 abbrev pub walk_next : ℕ → ℕ → Option ℕ

@@ -8,7 +8,7 @@ pub mod machine;
 pub mod path;
 pub mod theorems;
 
-pub use engine::{Explored, explore};
+pub use engine::explore;
 pub use entry::{Entry, Traced};
 pub use machine::Machine;
 pub use path::{NoPath, path_back};

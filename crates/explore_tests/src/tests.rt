@@ -1,14 +1,13 @@
 // The engine run on the small machine, with room to spare, just enough, too little and none.
 use super::*;
 use explore::{NoPath, explore, path_back};
+use rows::Full;
 
 // Room to spare: six rows are listed, the seventh stays as it was, and row 4 is found by 0 and 1.
 #[test]
 fn all_fit(rt: HostRuntime) {
     let mut rows = [BLANK; 7];
-    let explored = explore(&Walk, &mut rows);
-    assert_eq!(rt; explored.len, 6);
-    assert!(rt; explored.complete);
+    assert_eq!(rt; explore(&Walk, &mut rows), Ok(6));
     assert_eq!(rt; rows[5].node, 34);
     assert_eq!(rt; rows[6].node, 99);
     let mut labels = [7u8; 3];
@@ -23,11 +22,9 @@ fn all_fit(rt: HostRuntime) {
 #[test]
 fn room_counts(rt: HostRuntime) {
     let mut enough = [BLANK; 6];
-    assert!(rt; explore(&Walk, &mut enough).complete);
+    assert_eq!(rt; explore(&Walk, &mut enough), Ok(6));
     let mut short = [BLANK; 5];
-    let explored = explore(&Walk, &mut short);
-    assert_eq!(rt; explored.len, 5);
-    assert!(rt; !explored.complete);
+    assert_eq!(rt; explore(&Walk, &mut short), Err(Full));
     let mut none: [Step; 0] = [];
-    assert_eq!(rt; explore(&Walk, &mut none).len, 0);
+    assert_eq!(rt; explore(&Walk, &mut none), Err(Full));
 }

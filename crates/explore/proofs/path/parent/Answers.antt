@@ -1,4 +1,4 @@
-use Rattle.std.proofs.Common.{◌≡◌, ◌≤◌, map, get_or, sym, ◌∙◌, arith}
+use Rattle.std.proofs.Common.{sym, ◌∙◌, arith}
 use Rattle.explore.proofs.ReadBack.{parent_is, parent_not, from_read, from_past}
 use Rattle.explore.proofs.path.parent.Goals as goal
 
