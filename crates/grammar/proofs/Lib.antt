@@ -2,6 +2,7 @@ pub mod Language
 pub mod Unfold
 pub mod Run
 pub mod Steps
+pub mod Digits
 pub mod Choice
 pub mod Heads
 pub mod Decimal

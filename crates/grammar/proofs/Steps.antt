@@ -1,12 +1,13 @@
 -- How the machine's word moves on with the reader's place.
-use Rattle.std.proofs.Common.{◌≡◌, ℕ, zero, suc, ◌+◌, ◌-◌, ◌<◌, ◌≤◌, Bool, true, false, List, [], ◌∷◌, ◌++◌, length, get_or, drop, Ok, Err, Result, sym, refl, ap, ◌∙◌, append-nil, arith}
+use Rattle.std.proofs.Common.{◌≡◌, ℕ, zero, suc, ◌+◌, ◌<◌, ◌≤◌, Bool, true, false, List, [], ◌∷◌, ◌++◌, length, get_or, drop, Ok, Err, Result, sym, refl, ap, ◌∙◌, arith}
 use native.Mathlib.Decide.{dec_lt}
 use Rattle.grammar.proofs.Run.{has_to, has_from}
 use Rattle.std.proofs.lemmas.List.{drop_more, drop_all}
 use Rattle.grammar.specs.Recording.{Shape, whole, wrong, early}
-use Rattle.grammar.specs.Machine.{Name, lits, Class, is, any, some, Has, has, more, num, int, tail, vals, Sym, t, n, prods, keep, pick, after, any_ends, step, later, ended, next, run}
-use Rattle.grammar.specs.Reading.{place, run_at, NoDigit, Ahead, Within, Spelt, Reads, ReadsWord, ReadsValues}
+use Rattle.grammar.specs.Machine.{is, any, Has, has, more, int, tail, vals, Sym, t, n, prods, keep, pick, after, any_ends, step, later, ended, next, run}
+use Rattle.grammar.specs.Reading.{place, run_at, NoDigit, behind, out}
 use Rattle.grammar.specs.Flaws.{flawed}
+use Rattle.grammar.specs.declared.cursor.Cursor.{Cursor}
 use Rattle.grammar.specs.declared.flaw.Flaw.{Flaw}
 
 pub place_later : (i : ℕ) (o : Shape) → place i (later o) ≡ place (i + 1) o
@@ -50,19 +51,6 @@ keep_no : {A : Type 0} (v : Bool) (x : A) (xs : List A) → (v ≡ true → ⊥)
 keep_no true x xs e = absurd (e refl)
 keep_no false x xs e = refl
 
--- one byte
-class_step : (c : Class) (s : List Sym) (b : ℕ) → Has c b → step ((t c ∷ s) ∷ []) b ≡ s ∷ []
-class_step c s b h = ap (λ (S : List (List Sym)). S ++ []) (keep_yes (has c b) s [] (has_to c b h))
-
-class_stop : (c : Class) (s : List Sym) (b : ℕ) → (Has c b → ⊥) → step ((t c ∷ s) ∷ []) b ≡ []
-class_stop c s b h = ap (λ (S : List (List Sym)). S ++ []) (keep_no (has c b) s [] (λ e. h (has_from c b e)))
-
-pub class_here : (c : Class) (s : List Sym) (i : ℕ) (w : List ℕ) → i < length w → Has c (get_or w i 0) → run_at ((t c ∷ s) ∷ []) i w ≡ run_at (s ∷ []) (i + 1) w
-class_here c s i w l h = goes ((t c ∷ s) ∷ []) [] s i w l (class_step c s (get_or w i 0) h)
-
-pub class_not : (c : Class) (s : List Sym) (i : ℕ) (w : List ℕ) → i < length w → (Has c (get_or w i 0) → ⊥) → run_at ((t c ∷ s) ∷ []) i w ≡ wrong i
-class_not c s i w l h = stops ((t c ∷ s) ∷ []) i w l (class_stop c s (get_or w i 0) h)
-
 -- digits
 pub digit_here : (k : ℕ) (s : List Sym) (i : ℕ) (w : List ℕ) → NoDigit s → i < length w → Has any (get_or w i 0)
     → run_at ((n (more (suc k)) ∷ s) ∷ []) i w ≡ run_at ((n (more k) ∷ s) ∷ []) (i + 1) w
@@ -78,81 +66,20 @@ digits_off (suc k) s i w f =
     alike ((n (more (suc k)) ∷ s) ∷ []) (s ∷ []) i w refl
     (λ l. ap (λ (S : List (List Sym)). (S ++ after s (get_or w i 0)) ++ []) (keep_no (has any (get_or w i 0)) (n (more k) ∷ s) [] (λ e. f l (omega arith) (has_from any (get_or w i 0) e))))
 
--- numbers
-pub zero_here : (s : List Sym) (i : ℕ) (w : List ℕ) → i < length w → get_or w i 0 ≡ 48 → run_at ((n num ∷ s) ∷ []) i w ≡ run_at (s ∷ []) (i + 1) w
-zero_here s i w l h =
-    goes ((n num ∷ s) ∷ []) [] s i w l (ap (λ (b : ℕ). step ((n num ∷ s) ∷ []) b) h)
-
-pub zero_not : (s : List Sym) (i : ℕ) (w : List ℕ) → (i < length w → get_or w i 0 ≡ 48 → ⊥) → run_at ((n num ∷ s) ∷ []) i w ≡ run_at ((t some ∷ n (more 9) ∷ s) ∷ []) i w
-zero_not s i w f =
-    alike ((n num ∷ s) ∷ []) ((t some ∷ n (more 9) ∷ s) ∷ []) i w refl
-    (λ l. ap (λ (S : List (List Sym)). (S ++ []) ++ []) (keep_no (has (is 48) (get_or w i 0)) s (keep (has some (get_or w i 0)) (n (more 9) ∷ s) []) (λ e. f l (has_from (is 48) (get_or w i 0) e)))
-    ∙ append-nil (keep (has some (get_or w i 0)) (n (more 9) ∷ s) [] ++ []))
-
-pub digit_less : (m : ℕ) (s : List Sym) (i : ℕ) (w : List ℕ) → NoDigit s → 0 < m → i < length w → Has any (get_or w i 0)
-    → run_at ((n (more m) ∷ s) ∷ []) i w ≡ run_at ((n (more (m - 1)) ∷ s) ∷ []) (i + 1) w
-digit_less zero s i w nd p l h = absurd (omega arith)
-digit_less (suc k) s i w nd p l h =
-    digit_here k s i w nd l h ∙ (let e : k ≡ suc k - 1 = omega arith in ap (λ (m : ℕ). run_at ((n (more m) ∷ s) ∷ []) (i + 1) w) e)
-
-pub minus_here : (s : List Sym) (i : ℕ) (w : List ℕ) → i < length w → get_or w i 0 ≡ 45 → run_at ((n int ∷ s) ∷ []) i w ≡ run_at ((t some ∷ n (more 9) ∷ s) ∷ []) (i + 1) w
-minus_here s i w l h =
-    goes ((n int ∷ s) ∷ []) [] (t some ∷ n (more 9) ∷ s) i w l (ap (λ (b : ℕ). step ((n int ∷ s) ∷ []) b) h)
-
-pub minus_not : (s : List Sym) (i : ℕ) (w : List ℕ) → (i < length w → get_or w i 0 ≡ 45 → ⊥) → run_at ((n int ∷ s) ∷ []) i w ≡ run_at ((n num ∷ s) ∷ []) i w
-minus_not s i w f =
-    alike ((n int ∷ s) ∷ []) ((n num ∷ s) ∷ []) i w refl
-    (λ l. ap (λ (S : List (List Sym)). (keep (has (is 48) (get_or w i 0)) s (keep (has some (get_or w i 0)) (n (more 9) ∷ s) S) ++ []) ++ [])
-    (keep_no (has (is 45) (get_or w i 0)) (t some ∷ n (more 9) ∷ s) [] (λ e. f l (has_from (is 45) (get_or w i 0) e))))
-
 pub no_digit : (c : ℕ) (s : List Sym) → c < 48 → NoDigit (t (is c) ∷ s)
 no_digit c s h b l u = keep_no (has (is c) b) s [] (λ e. let k = has_from (is c) b e in omega arith)
-
--- values
-pub vals_none : (s : List Sym) (i : ℕ) (w : List ℕ) → i < length w → get_or w i 0 ≡ 41 → run_at ((n vals ∷ t (is 41) ∷ s) ∷ []) i w ≡ run_at ((t (is 41) ∷ s) ∷ []) i w
-vals_none s i w l h =
-    alike ((n vals ∷ t (is 41) ∷ s) ∷ []) ((t (is 41) ∷ s) ∷ []) i w refl
-    (λ k. ap (λ (b : ℕ). step ((n vals ∷ t (is 41) ∷ s) ∷ []) b) h ∙ sym (ap (λ (b : ℕ). step ((t (is 41) ∷ s) ∷ []) b) h))
 
 pub vals_some : (s : List Sym) (i : ℕ) (w : List ℕ) → (i < length w → get_or w i 0 ≡ 41 → ⊥) → run_at ((n vals ∷ t (is 41) ∷ s) ∷ []) i w ≡ run_at ((n int ∷ n tail ∷ t (is 41) ∷ s) ∷ []) i w
 vals_some s i w f =
     alike ((n vals ∷ t (is 41) ∷ s) ∷ []) ((n int ∷ n tail ∷ t (is 41) ∷ s) ∷ []) i w refl
     (λ l. ap (λ (S : List (List Sym)). (pick (prods vals) (t (is 41) ∷ s) (get_or w i 0) ++ S) ++ []) (keep_no (has (is 41) (get_or w i 0)) s [] (λ e. f l (has_from (is 41) (get_or w i 0) e))))
 
-pub tail_here : (s : List Sym) (i : ℕ) (w : List ℕ) → i < length w → get_or w i 0 ≡ 32 → run_at ((n tail ∷ t (is 41) ∷ s) ∷ []) i w ≡ run_at ((n int ∷ n tail ∷ t (is 41) ∷ s) ∷ []) (i + 1) w
-tail_here s i w l h =
-    goes ((n tail ∷ t (is 41) ∷ s) ∷ []) [] (n int ∷ n tail ∷ t (is 41) ∷ s) i w l (ap (λ (b : ℕ). step ((n tail ∷ t (is 41) ∷ s) ∷ []) b) h)
-
-pub tail_not : (s : List Sym) (i : ℕ) (w : List ℕ) → (i < length w → get_or w i 0 ≡ 32 → ⊥) → run_at ((n tail ∷ t (is 41) ∷ s) ∷ []) i w ≡ run_at ((t (is 41) ∷ s) ∷ []) i w
-tail_not s i w f =
-    alike ((n tail ∷ t (is 41) ∷ s) ∷ []) ((t (is 41) ∷ s) ∷ []) i w refl
-    (λ l. ap (λ (S : List (List Sym)). (S ++ keep (has (is 41) (get_or w i 0)) s []) ++ []) (keep_no (has (is 32) (get_or w i 0)) (n int ∷ n tail ∷ t (is 41) ∷ s) [] (λ e. f l (has_from (is 32) (get_or w i 0) e))))
-
 pub tail_no_digit : (s : List Sym) → NoDigit (n tail ∷ t (is 41) ∷ s)
 tail_no_digit s b l u =
     ap (λ (S : List (List Sym)). S ++ keep (has (is 41) b) s []) (keep_no (has (is 32) b) (n int ∷ n tail ∷ t (is 41) ∷ s) [] (λ e. let k = has_from (is 32) b e in omega arith))
     ∙ keep_no (has (is 41) b) s [] (λ e. let k = has_from (is 41) b e in omega arith)
 
--- places
-pub ahead_less : (i : ℕ) (r : Result ℕ Flaw) → Ahead (i + 1) r → Ahead i r
-ahead_less i (Ok j) h = omega arith
-ahead_less i (Err e) h = tt
-
 -- a reader that fails because another has
-not_both : {A : Type 0} (j : ℕ) (e : Flaw) → ◌≡◌ {A = Result ℕ Flaw} (Ok j) (Err e) → A
-not_both j e p = let z : ◌≡◌ {A = ℕ} 0 1 = cc in absurd (omega arith)
-
-pub failed_word : (cs w : List ℕ) (i : ℕ) (e : Flaw) (r : Result ℕ Flaw) → r ≡ Err e → ((s : List Sym) → run_at (lits cs s ∷ []) i w ≡ flawed e)
-    → Within r w × Spelt cs w i r × ReadsWord cs w i r
-failed_word cs w i e (Ok j) p h = not_both j e p
-failed_word cs w i e (Err f) p h = (tt, tt, λ s. h s ∙ (let q : e ≡ f = cc in ap flawed q))
-
-pub failed_values : (x : Name) (w : List ℕ) (i : ℕ) (e : Flaw) (r : Result ℕ Flaw) → r ≡ Err e
-    → ((s : List Sym) → run_at ((n x ∷ t (is 41) ∷ s) ∷ []) i w ≡ flawed e) → Within r w × ReadsValues x w i r
-failed_values x w i e (Ok j) p h = not_both j e p
-failed_values x w i e (Err f) p h = (tt, λ s. h s ∙ (let q : e ≡ f = cc in ap flawed q))
-
-pub failed : (x : List Sym) (w : List ℕ) (i : ℕ) (e : Flaw) (r : Result ℕ Flaw) → r ≡ Err e
-    → ((s : List Sym) → run_at ((x ++ s) ∷ []) i w ≡ flawed e) → Within r w × Reads x w i r
-failed x w i e (Ok j) p h = not_both j e p
-failed x w i e (Err f) p h = (tt, λ s. h s ∙ (let q : e ≡ f = cc in ap flawed q))
+pub failed : (S : List (List Sym)) (s : List Sym) (c d : Cursor) (e : Flaw) (r : Result (Unit {0}) Flaw) → r ≡ Err e → behind S c ≡ flawed e → behind S c ≡ out r s d
+failed S s c d e (Ok u) p h = cc
+failed S s c d e (Err f) p h = h ∙ (let q : e ≡ f = cc in ap flawed q)

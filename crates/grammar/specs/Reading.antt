@@ -1,11 +1,16 @@
--- What a reader's answer says of the machine: how the text goes on from the place that it was called at is how it goes on from its answer.
-use Rattle.std.specs.Prelude.{◌≡◌, ℕ, zero, suc, ◌+◌, ◌-◌, ◌<◌, ◌≤◌, max, List, [], ◌∷◌, ◌++◌, length, take, drop, Ok, Err, codes, Result, slice_index, slice_index_or}
+-- What a reader's answer says of the machine: how the text goes on from the cursor that it was called with is how it goes on from the cursor that it leaves.
+use Rattle.std.specs.Prelude.{IfOk, IfErr, Bool, true, false, ◌≡◌, ℕ, ◌+◌, ◌-◌, ◌<◌, ◌≤◌, max, List, [], ◌∷◌, ◌++◌, length, drop, Ok, Err, Result, slice_index}
+use Rattle.std.specs.Borrow.{Bor}
+use Rattle.std.specs.List.{Contains}
 use Rattle.grammar.specs.Recording.{Shape, whole, wrong, early}
 use Rattle.grammar.specs.Flaws.{flawed}
-use Rattle.grammar.specs.Machine.{is, Name, more, num, int, rest, form, Sym, t, n, lits, after, run}
+use Rattle.grammar.specs.Machine.{is, more, num, int, rest, form, Sym, t, n, lits, after, run}
 use Rattle.grammar.specs.declared.flaw.Flaw.{Flaw}
-use Rattle.grammar.specs.declared.words.Words.{Words}
-use Rattle.grammar.specs.declared.words.Words.TheVariants.{Formula, Line}
+use Rattle.grammar.specs.declared.cursor.Cursor.{Cursor}
+use Rattle.grammar.specs.declared.formula.Inside.{Inside}
+use Rattle.grammar.specs.declared.formula.Inside.TheVariants.{Comparison, Number, OneFormula, TwoFormulas}
+use Rattle.grammar.specs.declared.lines.Line.{Line}
+use Rattle.grammar.specs.declared.lines.Line.TheVariants.{Rule, Valued, Plain}
 
 -- the shape of a text with i bytes ahead
 abbrev pub place : ℕ → Shape → Shape
@@ -17,54 +22,52 @@ place i early = early
 abbrev pub run_at : List (List Sym) → ℕ → List ℕ → Shape
 run_at S i w = place i (run S (drop i w))
 
--- the same, after what a reader has answered, with the row s to come
-abbrev pub out : Result ℕ Flaw → List Sym → List ℕ → Shape
-out (Ok j) s w = run_at (s ∷ []) j w
-out (Err e) s w = flawed e
+-- the same from a cursor on
+abbrev pub behind : List (List Sym) → Cursor → Shape
+behind S c = run_at S c.at c.text.now
 
--- the place answered is in the text
-abbrev pub Within : Result ℕ Flaw → List ℕ → Type 0
-Within (Ok j) w = j ≤ length w
-Within (Err e) w = Unit {0}
+-- the same where a reader has answered r and left the cursor d, with the row s to come
+abbrev pub out : Result (Unit {0}) Flaw → List Sym → Cursor → Shape
+out (Ok u) s d = behind (s ∷ []) d
+out (Err e) s d = flawed e
 
--- the place answered is i or later
-abbrev pub Ahead : ℕ → Result ℕ Flaw → Type 0
-Ahead i (Ok j) = i ≤ j
-Ahead i (Err e) = Unit {0}
+-- d is in the text of c, at its place or behind it
+pub record Onward (c d : Cursor) : Type 0 where
+  pub text : d.text.now ≡ c.text.now
+  pub at : c.at ≤ d.at
 
 -- no digit can come first
 abbrev pub NoDigit : List Sym → Type 0
 NoDigit s = (b : ℕ) → 48 ≤ b → b ≤ 57 → after s b ≡ []
 
--- the row x was to come at i, and anything behind it
-abbrev pub Reads : List Sym → List ℕ → ℕ → Result ℕ Flaw → Type 0
-Reads x w i r = (s : List Sym) → run_at ((x ++ s) ∷ []) i w ≡ out r s w
+-- the row x was to come at c, and anything behind it
+abbrev pub Reads : List Sym → Cursor → Result (Unit {0}) Flaw → Cursor → Type 0
+Reads x c r d = (s : List Sym) → behind ((x ++ s) ∷ []) c ≡ out r s d
 
 -- the same where no digit can come behind it
-abbrev pub ReadsNumber : List Sym → List ℕ → ℕ → Result ℕ Flaw → Type 0
-ReadsNumber x w i r = (s : List Sym) → NoDigit s → run_at ((x ++ s) ∷ []) i w ≡ out r s w
+abbrev pub ReadsNumber : List Sym → Cursor → Result (Unit {0}) Flaw → Cursor → Type 0
+ReadsNumber x c r d = (s : List Sym) → NoDigit s → behind ((x ++ s) ∷ []) c ≡ out r s d
 
--- the same where a closing bracket comes behind it
-abbrev pub ReadsValues : Name → List ℕ → ℕ → Result ℕ Flaw → Type 0
-ReadsValues x w i r = (s : List Sym) → run_at ((n x ∷ t (is 41) ∷ s) ∷ []) i w ≡ out r (t (is 41) ∷ s) w
+-- up to k digits were to come at c
+abbrev pub ReadsDigits : ℕ → Cursor → Cursor → Type 0
+ReadsDigits k c d = (s : List Sym) → NoDigit s → behind ((n (more k) ∷ s) ∷ []) c ≡ behind (s ∷ []) d
 
--- up to k digits were to come at i
-abbrev pub ReadsDigits : ℕ → List ℕ → ℕ → ℕ → Type 0
-ReadsDigits k w i j = (s : List Sym) → NoDigit s → run_at ((n (more k) ∷ s) ∷ []) i w ≡ run_at (s ∷ []) j w
+-- the byte b stands at c
+abbrev pub Stands : ℕ → Cursor → Type 0
+Stands b c = (c.at < length c.text.now) × (slice_index c.text.now c.at ≡ b)
 
--- the byte c stands at i
-abbrev pub Stands : ℕ → List ℕ → ℕ → Result ℕ Flaw → Type 0
-Stands c w i (Ok j) = (j ≡ i + 1) × (i < length w) × (slice_index w i ≡ c)
-Stands c w i (Err e) = Unit {0}
+-- d is behind the byte b at c if it stands there, and c if not
+abbrev pub Passes : ℕ → Cursor → Bool → Cursor → Type 0
+Passes b c true d = Stands b c × (d.text.now ≡ c.text.now) × (d.at ≡ c.at + 1)
+Passes b c false d = ¬ (Stands b c) × (d ≡ c)
 
--- the bytes cs stand at i
-abbrev pub Spelt : List ℕ → List ℕ → ℕ → Result ℕ Flaw → Type 0
-Spelt cs w i (Ok j) = (j ≡ i + length cs) × (drop i w ≡ cs ++ drop j w)
-Spelt cs w i (Err e) = Unit {0}
+-- the bytes cs stand at c, and d is behind them
+abbrev pub Spelt : List ℕ → Cursor → Cursor → Type 0
+Spelt cs c d = (d.at ≡ c.at + length cs) × (drop c.at c.text.now ≡ cs ++ drop d.at d.text.now)
 
--- the bytes cs were to come at i
-abbrev pub ReadsWord : List ℕ → List ℕ → ℕ → Result ℕ Flaw → Type 0
-ReadsWord cs w i r = (s : List Sym) → run_at (lits cs s ∷ []) i w ≡ out r s w
+-- the bytes cs were to come at c
+abbrev pub ReadsWord : List ℕ → Cursor → Result (Unit {0}) Flaw → Cursor → Type 0
+ReadsWord cs c r d = (s : List Sym) → behind (lits cs s ∷ []) c ≡ out r s d
 
 -- what two sets of rows say together: the flaw of the one that came further
 abbrev pub far : Shape → Shape → Shape
@@ -76,80 +79,49 @@ far early whole = whole
 far early (wrong l) = early
 far early early = early
 
--- the words that a formula begins with
-abbrev pub formula_words : List (List ℕ)
-formula_words =
-    codes "(eq " ∷ codes "(lt " ∷ codes "(gt " ∷ codes "(mark " ∷ codes "(by " ∷ codes "(not " ∷ codes "(before " ∷ codes "(once " ∷ codes "(always "
-    ∷ codes "(and " ∷ codes "(or " ∷ codes "(implies " ∷ codes "(since " ∷ []
+-- the row of each word in a table, where f says by what stands beside a word what is to come behind it
+abbrev pub word_rows : {T : Type 0} → List (Bor (List ℕ) × T) → (T → List Sym) → List (List Sym)
+word_rows [] f = []
+word_rows (p ∷ ps) f = lits p.0.now (f p.1) ∷ word_rows ps f
 
--- the words that a line begins with
-abbrev pub line_words : List (List ℕ)
-line_words = codes "(rule " ∷ codes "(internal " ∷ codes "(read " ∷ codes "(write " ∷ codes "(acquire " ∷ codes "(release " ∷ []
+-- a word of the table stands at c, r is what stands beside it, and d is behind it; or none does, whatever is to come behind each
+pub record ReadsOne {T : Type 0} (ws : List (Bor (List ℕ) × T)) (c : Cursor) (r : Result T Flaw) (d : Cursor) : Type 0 where
+  pub found : IfOk r (λ m. (w : Bor (List ℕ)) × Contains ws (w, m) × Spelt w.now c d)
+  pub missed : IfErr r (λ e. (f : T → List Sym) → behind (word_rows ws f) c ≡ flawed e)
 
-abbrev pub words_of : Words → List (List ℕ)
-words_of Formula = formula_words
-words_of Line = line_words
+-- a formula that has this inside, with room for d levels of brackets inside its own
+abbrev pub Fits : ℕ → Inside → Type 0
+Fits d Comparison = Unit {0}
+Fits d Number = Unit {0}
+Fits d OneFormula = 0 < d
+Fits d TwoFormulas = 0 < d
 
--- each word with a row behind it
-abbrev pub zipped : List (List ℕ) → List (List Sym) → List (List Sym)
-zipped [] xs = []
-zipped (w ∷ ws) [] = []
-zipped (w ∷ ws) (x ∷ xs) = lits w x ∷ zipped ws xs
+-- what is to come behind a formula's word, with s behind the formula, where formulas inside have room for e levels
+abbrev pub inside : ℕ → List Sym → Inside → List Sym
+inside e s Comparison = n num ∷ t (is 32) ∷ n int ∷ t (is 41) ∷ s
+inside e s Number = n num ∷ t (is 41) ∷ s
+inside e s OneFormula = n (form e) ∷ t (is 41) ∷ s
+inside e s TwoFormulas = n (form e) ∷ t (is 32) ∷ n (form e) ∷ t (is 41) ∷ s
 
--- one of the first m words stands at i; or none does, whatever was to come behind each
-abbrev pub ReadsOne : List (List ℕ) → ℕ → List ℕ → ℕ → Result (ℕ × ℕ) Flaw → Type 0
-ReadsOne ws m w i (Ok p) = (p.0 < m) × (p.1 ≤ length w) × Spelt (slice_index_or ws p.0 []) w i (Ok p.1)
-ReadsOne ws m w i (Err e) = (xs : List (List Sym)) → length ws ≡ length xs → run_at (take m (zipped ws xs)) i w ≡ flawed e
+-- what is to come behind a line's word, with s behind the lines
+abbrev pub body : List Sym → Line → List Sym
+body s Rule = n (form 14) ∷ t (is 41) ∷ t (is 10) ∷ s
+body s Valued = n num ∷ t (is 32) ∷ n num ∷ t (is 32) ∷ n int ∷ t (is 41) ∷ t (is 10) ∷ n rest ∷ s
+body s Plain = n num ∷ t (is 32) ∷ n num ∷ t (is 41) ∷ t (is 10) ∷ n rest ∷ s
 
--- how many of the words may begin a formula with room for d levels inside
-abbrev pub tops : ℕ → ℕ
-tops zero = 5
-tops (suc d) = 13
+-- what the machine says behind a word that was read, where f says what is to come there
+abbrev pub out_word : {T : Type 0} → Result T Flaw → (T → List Sym) → Cursor → Shape
+out_word (Ok m) f d = behind (f m ∷ []) d
+out_word (Err e) f d = flawed e
 
--- what follows each word of a formula, with s behind, where formulas inside have room for e levels
-abbrev pub insides : ℕ → List Sym → List (List Sym)
-insides e s =
-    let c : List Sym = n num ∷ t (is 32) ∷ n int ∷ t (is 41) ∷ s in
-    let g : List Sym = n num ∷ t (is 41) ∷ s in
-    let u : List Sym = n (form e) ∷ t (is 41) ∷ s in
-    let b : List Sym = n (form e) ∷ t (is 32) ∷ n (form e) ∷ t (is 41) ∷ s in
-    c ∷ c ∷ c ∷ g ∷ g ∷ u ∷ u ∷ u ∷ u ∷ b ∷ b ∷ b ∷ b ∷ []
+-- a formula was to come at c, and its word was read
+abbrev pub ReadsFormulaWord : ℕ → Cursor → Result Inside Flaw → Cursor → Type 0
+ReadsFormulaWord d c r e = (s : List Sym) → behind ((n (form d) ∷ s) ∷ []) c ≡ out_word r (inside (d - 1) s) e
 
-abbrev pub inside : ℕ → ℕ → List Sym → List Sym
-inside op e s = slice_index_or (insides e s) op []
+-- a line was to come at c, and its word was read
+abbrev pub ReadsLineWord : Cursor → Result Line Flaw → Cursor → Type 0
+ReadsLineWord c r d = (s : List Sym) → behind ((n rest ∷ s) ∷ []) c ≡ out_word r (body s) d
 
--- what follows each word of a line, with s behind
-abbrev pub bodies : List Sym → List (List Sym)
-bodies s =
-    let a : List Sym = n num ∷ t (is 32) ∷ n num ∷ t (is 32) ∷ n int ∷ t (is 41) ∷ t (is 10) ∷ n rest ∷ s in
-    let k : List Sym = n num ∷ t (is 32) ∷ n num ∷ t (is 41) ∷ t (is 10) ∷ n rest ∷ s in
-    (n (form 14) ∷ t (is 41) ∷ t (is 10) ∷ s) ∷ a ∷ a ∷ a ∷ k ∷ k ∷ []
-
-abbrev pub body : ℕ → List Sym → List Sym
-body op s = slice_index_or (bodies s) op []
-
--- the word answered is one of the first m, and its end is behind i and in the text
-abbrev pub Known : ℕ → Result (ℕ × ℕ) Flaw → Type 0
-Known m (Ok p) = p.0 < m
-Known m (Err e) = Unit {0}
-
-abbrev pub Passed : ℕ → List ℕ → Result (ℕ × ℕ) Flaw → Type 0
-Passed i w (Ok p) = (i < p.1) × (p.1 ≤ length w)
-Passed i w (Err e) = Unit {0}
-
--- with the row f k to come behind the word k that was answered
-abbrev pub out_word : Result (ℕ × ℕ) Flaw → (ℕ → List Sym) → List ℕ → Shape
-out_word (Ok p) f w = run_at (f p.0 ∷ []) p.1 w
-out_word (Err e) f w = flawed e
-
--- a formula was to come at i, and its word was read
-abbrev pub ReadsHead : ℕ → List ℕ → ℕ → Result (ℕ × ℕ) Flaw → Type 0
-ReadsHead d w i r = (s : List Sym) → run_at ((n (form d) ∷ s) ∷ []) i w ≡ out_word r (λ op. inside op (d - 1) s) w
-
--- a line was to come at i, and its word was read
-abbrev pub ReadsVerb : List ℕ → ℕ → Result (ℕ × ℕ) Flaw → Type 0
-ReadsVerb w i r = (s : List Sym) → run_at ((n rest ∷ s) ∷ []) i w ≡ out_word r (λ op. body op s) w
-
--- the rest of an action's line was to come at i
-abbrev pub ReadsBody : ℕ → List ℕ → ℕ → Result ℕ Flaw → Type 0
-ReadsBody op w i r = (s : List Sym) → run_at (body op s ∷ []) i w ≡ out r (n rest ∷ s) w
+-- the rest of a line was to come at c, and was read with its end
+abbrev pub ReadsLine : Line → Cursor → Result (Unit {0}) Flaw → Cursor → Type 0
+ReadsLine k c r d = (s : List Sym) → behind (body s k ∷ []) c ≡ out r (n rest ∷ s) d

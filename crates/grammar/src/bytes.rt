@@ -1,52 +1,84 @@
-// Readers of bytes that have to stand in the text. A reader is called at a place of the text, and
-// answers the place behind what it has read.
-ghost use Rattle.std.specs.Prelude.{◌≡◌, ◌+◌, ◌<◌, ◌≤◌, [], ◌∷◌, length};
-ghost use Rattle.grammar.specs.Flaws.{shape_of};
+// Readers of bytes that have to stand in the text. A reader passes what it reads, and answers what
+// is wrong with the text where something else stands there.
+ghost use Rattle.std.specs.Prelude.{◌≡◌, [], ◌∷◌, IfOk, drop};
+ghost use Rattle.grammar.specs.Flaws.{flawed, shape_of};
 ghost use Rattle.grammar.specs.Machine.{t, is};
-ghost use Rattle.grammar.specs.Reading.{Reads, ReadsWord, Spelt, Stands, Within, run_at};
+ghost use Rattle.grammar.specs.Reading.{Onward, Passes, Reads, ReadsWord, Spelt, behind};
 
+use crate::cursor::Cursor;
 use crate::flaw::Flaw;
 
-// Reads the byte `c`.
-pub(crate) fn byte(text: &[u8], i: usize, c: u8) -> Result<usize, Flaw>
-    requires { i ≤ length text.now }
-    ensures within { Within result text.now }
-    ensures stands { Stands c text.now i result }
-    ensures moves { Reads (t (is c) ∷ []) text.now i result }
-{
-    if i < text.len() {
-        if text[i] == c {
-            Ok(i + 1)
-        } else {
-            Err(Flaw::Wrong(i))
+impl<'a> Cursor<'a> {
+    // A cursor ahead of the whole text.
+    pub(crate) fn new(text: &'a [u8]) -> Cursor<'a>
+        ensures text { result.text.now ≡ text.now }
+        ensures at { result.at ≡ 0 }
+    {
+        Cursor { text, at: 0 }
+    }
+
+    // The bytes that are left.
+    pub(crate) fn rest(&self) -> &'a [u8]
+        ensures { result.now ≡ drop self.now.at self.now.text.now }
+    {
+        &self.text[self.at..]
+    }
+
+    // Passes the byte `c` if it comes next, and says whether it did.
+    pub(crate) fn pass(&mut self, c: u8) -> bool
+        ensures { Passes c self.old result self.new }
+    {
+        let comes = self.text.get(self.at) == Some(&c);
+        if comes {
+            self.at += 1;
         }
-    } else {
-        Err(Flaw::Early)
+        comes
     }
-}
 
-// Reads the bytes of `w`.
-pub(crate) fn word(text: &[u8], from: usize, w: &[u8]) -> Result<usize, Flaw>
-    requires { from ≤ length text.now }
-    ensures within { Within result text.now }
-    ensures spelt { Spelt w.now text.now from result }
-    ensures moves { ReadsWord w.now text.now from result }
-{
-    let mut i = from;
-    for c in w {
-        i = byte(text, i, *c)?;
+    // The flaw of a text that cannot go on as it does from here.
+    pub(crate) fn flaw(&self) -> Flaw
+        ensures { behind [] self.now ≡ flawed result }
+    {
+        if self.at < self.text.len() {
+            Flaw::Wrong(self.at)
+        } else {
+            Flaw::Early
+        }
     }
-    Ok(i)
-}
 
-// Reads the end of the text.
-pub(crate) fn end(text: &[u8], i: usize) -> Result<(), Flaw>
-    requires { i ≤ length text.now }
-    ensures { run_at ([] ∷ []) i text.now ≡ shape_of result }
-{
-    if i < text.len() {
-        Err(Flaw::Wrong(i))
-    } else {
+    // Reads the byte `c`.
+    pub(crate) fn byte(&mut self, c: u8) -> Result<(), Flaw>
+        ensures onward { Onward self.old self.new }
+        ensures stands { IfOk result (λ _. Spelt (c ∷ []) self.old self.new) }
+        ensures moves { Reads (t (is c) ∷ []) self.old result self.new }
+    {
+        if self.pass(c) {
+            Ok(())
+        } else {
+            Err(self.flaw())
+        }
+    }
+
+    // Reads the bytes of `w`.
+    pub(crate) fn word(&mut self, w: &[u8]) -> Result<(), Flaw>
+        ensures onward { Onward self.old self.new }
+        ensures spelt { IfOk result (λ _. Spelt w.now self.old self.new) }
+        ensures moves { ReadsWord w.now self.old result self.new }
+    {
+        for c in w {
+            self.byte(*c)?;
+        }
         Ok(())
+    }
+
+    // Reads the end of the text.
+    pub(crate) fn end(&self) -> Result<(), Flaw>
+        ensures { behind ([] ∷ []) self.now ≡ shape_of result }
+    {
+        if self.at < self.text.len() {
+            Err(self.flaw())
+        } else {
+            Ok(())
+        }
     }
 }

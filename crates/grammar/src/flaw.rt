@@ -3,7 +3,8 @@ ghost use Rattle.std.specs.Prelude.{◌≡◌};
 ghost use Rattle.grammar.specs.Flaws.{flawed};
 ghost use Rattle.grammar.specs.Reading.{far};
 
-#[derive(Clone, Copy, Debug, PartialEq, Eq)]
+// Of two flaws the greater is the one further on.
+#[derive(Clone, Copy, Debug, PartialEq, Eq, PartialOrd, Ord)]
 pub enum Flaw {
     // no legal text goes on with the byte at this place
     Wrong(usize),
@@ -16,9 +17,6 @@ impl Flaw {
     pub(crate) fn further(self, other: Flaw) -> Flaw
         ensures { flawed result ≡ far (flawed self) (flawed other) }
     {
-        match (self, other) {
-            (Flaw::Wrong(k), Flaw::Wrong(l)) => Flaw::Wrong(if k < l { l } else { k }),
-            _ => Flaw::Early,
-        }
+        self.max(other)
     }
 }

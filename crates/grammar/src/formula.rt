@@ -1,53 +1,76 @@
 // Readers of formulas.
-ghost use Rattle.std.specs.Prelude.{◌≡◌, ◌<◌, ◌≤◌, [], ◌∷◌, length};
+ghost use Rattle.std.specs.Prelude.{[], ◌∷◌, IfOk};
 ghost use Rattle.grammar.specs.Machine.{n, form};
-ghost use Rattle.grammar.specs.Reading.{Known, Passed, Reads, ReadsHead, Within, tops};
+ghost use Rattle.grammar.specs.Reading.{Fits, Onward, Reads, ReadsFormulaWord};
 
-use crate::bytes::byte;
+use crate::cursor::Cursor;
 use crate::flaw::Flaw;
-use crate::numbers::{integer, number};
-use crate::words::Words;
 
-// How many of the words may begin a formula with room for `room` levels of brackets inside its own:
-// with no room, those that hold no formula.
-fn openings(room: u8) -> u8
-    ensures { result ≡ tops room }
-{
-    if room > 0 { 13 } else { 5 }
+// What stands in a formula's brackets behind its word.
+#[derive(Clone, Copy)]
+pub(crate) enum Inside {
+    // a variable, and the constant that it is compared with
+    Comparison,
+    // a label or a thread
+    Number,
+    OneFormula,
+    TwoFormulas,
 }
 
-// Reads the word that a formula begins with, and says which.
-fn head(text: &[u8], i: usize, room: u8) -> Result<(u8, usize), Flaw>
-    requires { i ≤ length text.now }
-    ensures known { Known (tops room) result }
-    ensures passed { Passed i text.now result }
-    ensures moves { ReadsHead room text.now i result }
-{
-    Words::Formula.read(text, i, openings(room))
-}
+// How many of the words hold no formula.
+const LEAVES: usize = 5;
 
-// Reads a formula, with room for `room` levels of brackets inside its own.
-pub(crate) fn formula(text: &[u8], i: usize, room: u8) -> Result<usize, Flaw>
-    requires { i ≤ length text.now }
-    ensures within { Within result text.now }
-    ensures moves { Reads (n (form room) ∷ []) text.now i result }
-{
-    let (op, j) = head(text, i, room)?;
-    if op < 3 {
-        let variable = number(text, j)?;
-        let blank = byte(text, variable, b' ')?;
-        let constant = integer(text, blank)?;
-        byte(text, constant, b')')
-    } else if op < 5 {
-        let name = number(text, j)?;
-        byte(text, name, b')')
-    } else if op < 9 {
-        let inner = formula(text, j, room - 1)?;
-        byte(text, inner, b')')
-    } else {
-        let left = formula(text, j, room - 1)?;
-        let blank = byte(text, left, b' ')?;
-        let right = formula(text, blank, room - 1)?;
-        byte(text, right, b')')
+// The words that a formula begins with, first those that hold no formula.
+const FORMULA_WORDS: [(&'static [u8], Inside); 13] = [
+    (b"(eq ", Inside::Comparison),
+    (b"(lt ", Inside::Comparison),
+    (b"(gt ", Inside::Comparison),
+    (b"(mark ", Inside::Number),
+    (b"(by ", Inside::Number),
+    (b"(not ", Inside::OneFormula),
+    (b"(before ", Inside::OneFormula),
+    (b"(once ", Inside::OneFormula),
+    (b"(always ", Inside::OneFormula),
+    (b"(and ", Inside::TwoFormulas),
+    (b"(or ", Inside::TwoFormulas),
+    (b"(implies ", Inside::TwoFormulas),
+    (b"(since ", Inside::TwoFormulas),
+];
+
+impl<'a> Cursor<'a> {
+    // Reads the word that a formula begins with, and answers what stands behind it. With no room
+    // for brackets inside its own, a formula holds no other.
+    fn formula_word(&mut self, room: u8) -> Result<Inside, Flaw>
+        ensures onward { Onward self.old self.new }
+        ensures fits { IfOk result (Fits room) }
+        ensures moves { ReadsFormulaWord room self.old result self.new }
+    {
+        if room > 0 {
+            self.one_of(&FORMULA_WORDS)
+        } else {
+            self.one_of(&FORMULA_WORDS[..LEAVES])
+        }
+    }
+
+    // Reads a formula, with room for `room` levels of brackets inside its own.
+    pub(crate) fn formula(&mut self, room: u8) -> Result<(), Flaw>
+        ensures onward { Onward self.old self.new }
+        ensures moves { Reads (n (form room) ∷ []) self.old result self.new }
+    {
+        match self.formula_word(room)? {
+            Inside::Comparison => {
+                self.number()?;
+                self.byte(b' ')?;
+                self.integer()?;
+            }
+            Inside::Number => self.number()?,
+            Inside::OneFormula => self.formula(room - 1)?,
+            Inside::TwoFormulas => {
+                self.formula(room - 1)?;
+                self.byte(b' ')?;
+                self.formula(room - 1)?;
+            }
+        }
+        self.byte(b')')
     }
 }

@@ -1,87 +1,100 @@
 // Readers of lines.
-ghost use Rattle.std.specs.Prelude.{◌<◌, ◌≤◌, [], ◌∷◌, length};
-ghost use Rattle.grammar.specs.Machine.{n, rest, tail, vals};
-ghost use Rattle.grammar.specs.Reading.{Ahead, Known, Passed, Reads, ReadsBody, ReadsValues, ReadsVerb, Within};
+ghost use Rattle.std.specs.Prelude.{◌<◌, [], ◌∷◌, IfOk};
+ghost use Rattle.grammar.specs.Machine.{n, t, is, num, rest, vals};
+ghost use Rattle.grammar.specs.Reading.{Onward, Reads, ReadsLine, ReadsLineWord, ReadsNumber};
 
-use crate::bytes::{byte, word};
+use crate::cursor::Cursor;
 use crate::flaw::Flaw;
-use crate::formula::formula;
-use crate::numbers::{integer, number};
-use crate::words::Words;
 
-// Reads the values after the first, each behind a blank, up to a bracket.
-fn further(text: &[u8], from: usize) -> Result<usize, Flaw>
-    requires { from ≤ length text.now }
-    ensures within { Within result text.now }
-    ensures moves { ReadsValues tail text.now from result }
-{
-    let mut i = from;
-    while i < text.len() && text[i] == b' ' {
-        i = integer(text, i + 1)?;
-    }
-    Ok(i)
+// What a line says.
+#[derive(Clone, Copy)]
+pub(crate) enum Line {
+    Rule,
+    // an action with a value
+    Valued,
+    // an action without one
+    Plain,
 }
 
-// Reads the values, up to a bracket.
-pub(crate) fn values(text: &[u8], i: usize) -> Result<usize, Flaw>
-    requires { i ≤ length text.now }
-    ensures within { Within result text.now }
-    ensures moves { ReadsValues vals text.now i result }
-{
-    if i < text.len() {
-        if text[i] == b')' {
-            Ok(i)
-        } else {
-            let first = integer(text, i)?;
-            further(text, first)
+// The words that a line begins with.
+const LINE_WORDS: [(&'static [u8], Line); 6] = [
+    (b"(rule ", Line::Rule),
+    (b"(internal ", Line::Valued),
+    (b"(read ", Line::Valued),
+    (b"(write ", Line::Valued),
+    (b"(acquire ", Line::Plain),
+    (b"(release ", Line::Plain),
+];
+
+impl<'a> Cursor<'a> {
+    // Reads the values and the bracket behind them.
+    pub(crate) fn values(&mut self) -> Result<(), Flaw>
+        ensures onward { Onward self.old self.new }
+        ensures moves { Reads (n vals ∷ t (is 41) ∷ []) self.old result self.new }
+    {
+        if self.pass(b')') {
+            return Ok(());
         }
-    } else {
-        Err(Flaw::Early)
-    }
-}
-
-// Reads the word that a line begins with, and says which.
-fn verb(text: &[u8], i: usize) -> Result<(u8, usize), Flaw>
-    requires { i ≤ length text.now }
-    ensures known { Known 6 result }
-    ensures passed { Passed i text.now result }
-    ensures moves { ReadsVerb text.now i result }
-{
-    Words::Line.read(text, i, 6)
-}
-
-// Reads the rest of an action's line, whose word is `op`.
-fn action(text: &[u8], i: usize, op: u8) -> Result<usize, Flaw>
-    requires { (i ≤ length text.now) × ((0 < op) × (op < 6)) }
-    ensures ahead { Ahead i result }
-    ensures within { Within result text.now }
-    ensures moves { ReadsBody op text.now i result }
-{
-    let thread = number(text, i)?;
-    let blank = byte(text, thread, b' ')?;
-    let subject = number(text, blank)?;
-    if op < 4 {
-        let blank = byte(text, subject, b' ')?;
-        let value = integer(text, blank)?;
-        word(text, value, b")\n")
-    } else {
-        word(text, subject, b")\n")
-    }
-}
-
-// Reads the lines of the actions, and the rule's.
-pub(crate) fn lines(text: &[u8], from: usize) -> Result<usize, Flaw>
-    requires { from ≤ length text.now }
-    ensures within { Within result text.now }
-    ensures moves { Reads (n rest ∷ []) text.now from result }
-{
-    let mut i = from;
-    loop {
-        let (op, j) = verb(text, i)?;
-        if op == 0 {
-            let rule = formula(text, j, 14)?;
-            return word(text, rule, b")\n");
+        self.integer()?;
+        while self.pass(b' ') {
+            self.integer()?;
         }
-        i = action(text, j, op)?;
+        self.byte(b')')
+    }
+
+    // Reads the word that a line begins with, and answers what line it is.
+    fn line_word(&mut self) -> Result<Line, Flaw>
+        ensures onward { Onward self.old self.new }
+        ensures passed { IfOk result (λ _. self.old.at < self.new.at) }
+        ensures moves { ReadsLineWord self.old result self.new }
+    {
+        self.one_of(&LINE_WORDS)
+    }
+
+    // Reads the thread and the subject of an action.
+    fn thread_and_subject(&mut self) -> Result<(), Flaw>
+        ensures onward { Onward self.old self.new }
+        ensures moves { ReadsNumber (n num ∷ t (is 32) ∷ n num ∷ []) self.old result self.new }
+    {
+        self.number()?;
+        self.byte(b' ')?;
+        self.number()
+    }
+
+    // Reads the rest of a line that has a value.
+    fn valued(&mut self) -> Result<(), Flaw>
+        ensures onward { Onward self.old self.new }
+        ensures moves { ReadsLine Line.Valued self.old result self.new }
+    {
+        self.thread_and_subject()?;
+        self.byte(b' ')?;
+        self.integer()?;
+        self.word(b")\n")
+    }
+
+    // Reads the rest of a line that has none.
+    fn plain(&mut self) -> Result<(), Flaw>
+        ensures onward { Onward self.old self.new }
+        ensures moves { ReadsLine Line.Plain self.old result self.new }
+    {
+        self.thread_and_subject()?;
+        self.word(b")\n")
+    }
+
+    // Reads the lines of the actions, and the rule's.
+    pub(crate) fn lines(&mut self) -> Result<(), Flaw>
+        ensures onward { Onward self.old self.new }
+        ensures moves { Reads (n rest ∷ []) self.old result self.new }
+    {
+        loop {
+            match self.line_word()? {
+                Line::Rule => {
+                    self.formula(14)?;
+                    return self.word(b")\n");
+                }
+                Line::Valued => self.valued()?,
+                Line::Plain => self.plain()?,
+            }
+        }
     }
 }

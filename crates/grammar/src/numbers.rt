@@ -1,77 +1,69 @@
 // Readers of numbers. A number has at most ten digits, and no 0 ahead of another.
-ghost use Rattle.std.specs.Prelude.{◌+◌, ◌<◌, ◌≤◌, [], ◌∷◌, length};
+ghost use Rattle.std.specs.Prelude.{◌≡◌, [], ◌∷◌, length, take, drop};
+ghost use Rattle.std.specs.Char.{is_ascii_digit};
+ghost use Rattle.std.specs.List.{take_while};
 ghost use Rattle.grammar.specs.Machine.{t, n, some, more, num, int};
-ghost use Rattle.grammar.specs.Reading.{Ahead, ReadsDigits, ReadsNumber, Within};
+ghost use Rattle.grammar.specs.Reading.{Onward, ReadsDigits, ReadsNumber};
 
+use crate::cursor::Cursor;
 use crate::flaw::Flaw;
 
-// Passes at most `most` digits.
-fn digits(text: &[u8], from: usize, most: u8) -> usize
-    requires { from ≤ length text.now }
-    ensures ahead { from ≤ result }
-    ensures within { result ≤ length text.now }
-    ensures moves { ReadsDigits most text.now from result }
-{
-    let mut i = from;
-    let mut left = most;
-    while left > 0 && i < text.len() && text[i] >= b'0' && text[i] <= b'9' {
-        i += 1;
-        left -= 1;
+impl<'a> Cursor<'a> {
+    // How many digits come next, at most `most`.
+    fn digits_ahead(&self, most: usize) -> usize
+        ensures { result ≡ length (take_while is_ascii_digit (take most (drop self.now.at self.now.text.now))) }
+    {
+        self.rest()
+            .iter()
+            .take(most)
+            .take_while(|b| b.is_ascii_digit())
+            .count()
     }
-    i
-}
 
-// Reads a number above 0.
-fn positive(text: &[u8], i: usize) -> Result<usize, Flaw>
-    requires { i ≤ length text.now }
-    ensures ahead { Ahead i result }
-    ensures within { Within result text.now }
-    ensures moves { ReadsNumber (t some ∷ n (more 9) ∷ []) text.now i result }
-{
-    if i < text.len() {
-        let b = text[i];
-        if b >= b'1' && b <= b'9' {
-            Ok(digits(text, i + 1, 9))
-        } else {
-            Err(Flaw::Wrong(i))
-        }
-    } else {
-        Err(Flaw::Early)
+    // Passes at most `most` digits.
+    fn digits(&mut self, most: usize)
+        ensures onward { Onward self.old self.new }
+        ensures moves { ReadsDigits most self.old self.new }
+    {
+        self.at += self.digits_ahead(most);
     }
-}
 
-// Reads a number.
-pub(crate) fn number(text: &[u8], i: usize) -> Result<usize, Flaw>
-    requires { i ≤ length text.now }
-    ensures ahead { Ahead i result }
-    ensures within { Within result text.now }
-    ensures moves { ReadsNumber (n num ∷ []) text.now i result }
-{
-    if i < text.len() {
-        if text[i] == b'0' {
-            Ok(i + 1)
-        } else {
-            positive(text, i)
+    // Reads a number above 0.
+    fn positive(&mut self) -> Result<(), Flaw>
+        ensures onward { Onward self.old self.new }
+        ensures moves { ReadsNumber (t some ∷ n (more 9) ∷ []) self.old result self.new }
+    {
+        match self.text.get(self.at) {
+            Some(b'1'..=b'9') => {
+                self.at += 1;
+                self.digits(9);
+                Ok(())
+            }
+            _ => Err(self.flaw()),
         }
-    } else {
-        Err(Flaw::Early)
     }
-}
 
-// Reads a number that may have a minus.
-pub(crate) fn integer(text: &[u8], i: usize) -> Result<usize, Flaw>
-    requires { i ≤ length text.now }
-    ensures ahead { Ahead i result }
-    ensures within { Within result text.now }
-    ensures moves { ReadsNumber (n int ∷ []) text.now i result }
-{
-    if i < text.len() {
-        if text[i] == b'-' {
-            positive(text, i + 1)
+    // Reads a number.
+    pub(crate) fn number(&mut self) -> Result<(), Flaw>
+        ensures onward { Onward self.old self.new }
+        ensures moves { ReadsNumber (n num ∷ []) self.old result self.new }
+    {
+        if self.pass(b'0') {
+            Ok(())
         } else {
-            number(text, i)
+            self.positive()
         }
-    } else {
-        Err(Flaw::Early)
+    }
+
+    // Reads a number that may have a minus.
+    pub(crate) fn integer(&mut self) -> Result<(), Flaw>
+        ensures onward { Onward self.old self.new }
+        ensures moves { ReadsNumber (n int ∷ []) self.old result self.new }
+    {
+        if self.pass(b'-') {
+            self.positive()
+        } else {
+            self.number()
+        }
     }
 }

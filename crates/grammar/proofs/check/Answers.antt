@@ -1,13 +1,15 @@
-use Rattle.std.proofs.Common.{◌≡◌, Err, ◌∙◌, rules}
+use Rattle.std.proofs.Common.{[], ◌∙◌, rules}
 use Rattle.grammar.specs.Machine.{start}
 use Rattle.grammar.specs.Recording.{Legal}
 use Rattle.grammar.proofs.Judged.{tracks_legal, judged, broken}
 use Rattle.grammar.proofs.check.Goals as goal
 
-pub returns-in_err-last : goal.returns-in_err-last
-returns-in_err-last c =
-    let e : c.from_residual.result ≡ Err c.in_err-last.field-0.0 = search rules in
-    broken Legal start c.args.text.now c.in_err-last.field-0.0 c.from_residual.result tracks_legal e c.in_err-last.ensures.moves
+pub returns-in_err-recording : goal.returns-in_err-recording
+returns-in_err-recording c =
+    broken Legal start c.args.text.now c.new-cursor.result c.in_err-recording.field-0.0 c.from_residual.result tracks_legal c.new-cursor.ensures.text c.new-cursor.ensures.at
+    (search rules) (c.in_err-recording.ensures [])
 
 pub returns : goal.returns
-returns c = judged Legal start c.args.text.now c.end.result tracks_legal (c.in_ok-last.ensures.moves ∙ c.end.ensures)
+returns c =
+    judged Legal start c.args.text.now c.new-cursor.result c.end.result tracks_legal c.new-cursor.ensures.text c.new-cursor.ensures.at
+    (c.in_ok-recording.ensures [] ∙ c.end.ensures)

@@ -1,15 +1,15 @@
-use Rattle.std.proofs.Common.{◌≡◌, [], ◌∷◌, Err, ◌∙◌, rules}
+use Rattle.std.proofs.Common.{[], ◌∷◌, ◌∙◌, rules}
 use Rattle.grammar.specs.Machine.{n, form}
 use Rattle.grammar.specs.Recording.{LegalRule}
 use Rattle.grammar.proofs.Judged.{tracks_legal_rule, judged, broken}
 use Rattle.grammar.proofs.check_rule.Goals as goal
 
-pub returns-in_err-last : goal.returns-in_err-last
-returns-in_err-last c =
-    let e : c.from_residual.result ≡ Err c.in_err-last.field-0.0 = search rules in
-    broken LegalRule (n (form 15) ∷ []) c.args.text.now c.in_err-last.field-0.0 c.from_residual.result tracks_legal_rule e
-    (c.in_err-last.ensures.moves [])
+pub returns-in_err-formula : goal.returns-in_err-formula
+returns-in_err-formula c =
+    broken LegalRule (n (form 15) ∷ []) c.args.text.now c.new-cursor.result c.in_err-formula.field-0.0 c.from_residual.result tracks_legal_rule c.new-cursor.ensures.text
+    c.new-cursor.ensures.at (search rules) (c.in_err-formula.ensures.moves [])
 
 pub returns : goal.returns
 returns c =
-    judged LegalRule (n (form 15) ∷ []) c.args.text.now c.end.result tracks_legal_rule (c.in_ok-last.ensures.moves [] ∙ c.end.ensures)
+    judged LegalRule (n (form 15) ∷ []) c.args.text.now c.new-cursor.result c.end.result tracks_legal_rule c.new-cursor.ensures.text c.new-cursor.ensures.at
+    (c.in_ok-formula.ensures.moves [] ∙ c.end.ensures)

@@ -1,4 +1,0 @@
-use Rattle.grammar.proofs.formula.+formula.Given as goal
-
-abbrev pub decreases-formula : goal.decreases-formula
-decreases-formula l = l.room
