@@ -3,7 +3,7 @@ ghost use Rattle.std.specs.Prelude.{◌≡◌};
 ghost use Rattle.grammar.specs.Flaws.{flawed};
 ghost use Rattle.grammar.specs.Reading.{far};
 
-// Of two flaws the greater is the one further on.
+// Stays an enum and no Option, since both are flaws. Of two flaws the greater is the one further on.
 #[derive(Clone, Copy, Debug, PartialEq, Eq, PartialOrd, Ord)]
 pub enum Flaw {
     // no legal text goes on with the byte at this place

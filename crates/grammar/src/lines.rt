@@ -36,6 +36,7 @@ impl<'a> Cursor<'a> {
             return Ok(());
         }
         self.integer()?;
+        // Stays a while: the test and the body both move the cursor.
         while self.pass(b' ') {
             self.integer()?;
         }

@@ -43,7 +43,8 @@ impl<'a> Cursor<'a> {
         }
     }
 
-    // Reads a number.
+    // Reads a number. Stays written out, since the library's parse takes a 0 ahead of other digits and
+    // tells no place.
     pub(crate) fn number(&mut self) -> Result<(), Flaw>
         ensures onward { Onward self.old self.new }
         ensures moves { ReadsNumber (n num ∷ []) self.old result self.new }
