@@ -1,14 +1,12 @@
--- The bits of what `&`, `|` and `^` give, of one bit alone, and of a part of a code.
-use Rattle.std.proofs.Common.{◌≡◌, ℕ, zero, suc, ◌/◌, ◌%◌, ◌^◌, ◌<◌, ◌≤◌, Bool, true, false, cond, not, ◌&&◌, ◌||◌, eqb, ltb, ◌⊎◌, sym, refl, ap, ◌∙◌, inl, inr, arith}
-use native.Mathlib.Nat.{div-eq_of_lt}
-use lib.Bits.{bit_and, bit_or, bit_xor}
-use Rattle.std.proofs.lemmas.Nat.{and_shr, or_shr, xor_shr, and_mod, or_mod, xor_mod, mod_below, div-add-mod', pow_pos}
-use Rattle.std.proofs.lemmas.Bool.{cases_lt, ne_eqb, lt-ltb, le-ltb, cond-true}
+-- The bits of what `|` and `^` give, of one bit alone, and of a part of a code.
+use Rattle.std.proofs.Common.{◌≡◌, ℕ, zero, suc, ◌+◌, ◌/◌, ◌%◌, ◌^◌, ◌<◌, ◌≤◌, Bool, true, false, cond, max, not, ◌&&◌, ◌||◌, eqb, ltb, ◌⊎◌, sym, refl, ap, ◌∙◌, inl, inr, arith}
+use Rattle.std.specs.Int.{bit_at}
+use Rattle.std.proofs.lemmas.Nat.Bits.{bit_at_or, bit_at_xor, bit_at-zero, bit_at-lt, bit_at-pow_same, bit_at-pow_other}
+use lib.Bits.{bit_or, bit_xor}
+use Rattle.std.proofs.lemmas.Nat.{mod_below, div-add-mod', pow_pos}
+use Rattle.std.proofs.lemmas.Bool.{cases_lt, cases_eq, eq-eqb, ne_eqb, lt-ltb, le-ltb, cond-true}
 use Rattle.codes.specs.Codes.{bit_of, only_bit}
-use Rattle.codes.proofs.Codes.{code_ext, code_bits, bit_low, bit_code, bit_above, only_code}
-
-digit : (n : ℕ) → n % 2 < 2
-digit n = mod_below n 2 (omega arith)
+use Rattle.codes.proofs.Codes.{code_ext, code_bits, bit_low, bit_over}
 
 -- two binary digits, by an operation that agrees with a connective on 0 and 1
 digits : (f : ℕ → ℕ → ℕ) (g : Bool → Bool → Bool)
@@ -28,39 +26,29 @@ differs a b = cond a (not b) b
 
 pub bit_or_lem : (a b s : ℕ) → bit_of (bit_or a b) s ≡ (bit_of a s || bit_of b s)
 unfolding bit_of
-bit_or_lem a b s =
-    ap (λ n. eqb n 1) (ap (λ n. n % 2) (or_shr a b s) ∙ or_mod (a / 2 ^ s) (b / 2 ^ s) 1)
-    ∙ digits bit_or ◌||◌ refl refl refl refl _ _ (digit (a / 2 ^ s)) (digit (b / 2 ^ s))
-
-pub bit_and_lem : (a b s : ℕ) → bit_of (bit_and a b) s ≡ (bit_of a s && bit_of b s)
-unfolding bit_of
-bit_and_lem a b s =
-    ap (λ n. eqb n 1) (ap (λ n. n % 2) (and_shr a b s) ∙ and_mod (a / 2 ^ s) (b / 2 ^ s) 1)
-    ∙ digits bit_and ◌&&◌ refl refl refl refl _ _ (digit (a / 2 ^ s)) (digit (b / 2 ^ s))
+bit_or_lem a b s = ap (λ n. eqb n 1) (bit_at_or a b s) ∙ digits max ◌||◌ refl refl refl refl _ _ (bit_at-lt a s) (bit_at-lt b s)
 
 pub bit_xor_lem : (a b s : ℕ) → bit_of (bit_xor a b) s ≡ differs (bit_of a s) (bit_of b s)
 unfolding bit_of
 bit_xor_lem a b s =
-    ap (λ n. eqb n 1) (ap (λ n. n % 2) (xor_shr a b s) ∙ xor_mod (a / 2 ^ s) (b / 2 ^ s) 1)
-    ∙ digits bit_xor differs refl refl refl refl _ _ (digit (a / 2 ^ s)) (digit (b / 2 ^ s))
+    ap (λ n. eqb n 1) (bit_at_xor a b s) ∙ digits (λ x y. (x + y) % 2) differs refl refl refl refl _ _ (bit_at-lt a s) (bit_at-lt b s)
 
 pub bit_zero : (s : ℕ) → bit_of 0 s ≡ false
 unfolding bit_of
-bit_zero s = ap (λ n. eqb (n % 2) 1) (div-eq_of_lt (pow_pos s))
-
--- a number has no bit that is too high for it
-pub bit_over : (n c s : ℕ) → c < 2 ^ n → n ≤ s → bit_of c s ≡ false
-bit_over n c s h l = ap (λ x. bit_of x s) (code_bits n c h) ∙ bit_above n (bit_of c) s l
+bit_zero s = ap (λ n. eqb n 1) (bit_at-zero s)
 
 pub bit_only : (t s : ℕ) → s < 64 → bit_of (only_bit t) s ≡ eqb s t
-unfolding only_bit
-bit_only t s h = go (cases_lt t 64)
+unfolding bit_of only_bit
+bit_only t s h = go (cases_lt t 64) (cases_eq s t)
   where
-    go : (t < 64) ⊎ (64 ≤ t) → bit_of (cond (ltb t 64) (2 ^ t) 0) s ≡ eqb s t
-    go (inl l) =
+    go : (t < 64) ⊎ (64 ≤ t) → (s ≡ t) ⊎ (s ≡ t → ⊥) → bit_of (cond (ltb t 64) (2 ^ t) 0) s ≡ eqb s t
+    go (inl l) (inl e) =
         let low : ltb t 64 ≡ true = lt-ltb t 64 l in
-        rw low (ap (λ x. bit_of x s) (only_code 64 t l) ∙ bit_code 64 (λ k. eqb k t) s h)
-    go (inr l) =
+        rw low (ap (λ k. eqb (bit_at (2 ^ t) k) 1) e ∙ ap (λ n. eqb n 1) (bit_at-pow_same t) ∙ sym (eq-eqb s t e))
+    go (inl l) (inr ne) =
+        let low : ltb t 64 ≡ true = lt-ltb t 64 l in
+        rw low (ap (λ n. eqb n 1) (bit_at-pow_other t s ne) ∙ sym (ne_eqb s t ne))
+    go (inr l) e =
         let over : ltb t 64 ≡ false = le-ltb t 64 l in
         let other : eqb s t ≡ false = ne_eqb s t (λ e. omega arith) in
         rw (over, other) (bit_zero s)
@@ -75,7 +63,7 @@ bit_part n c s = go (cases_lt s n)
     go : (s < n) ⊎ (n ≤ s) → bit_of (c % 2 ^ n) s ≡ (ltb s n && bit_of c s)
     go (inl l) =
         let low : ltb s n ≡ true = lt-ltb s n l in
-        rw low (sym (bit_low (c / 2 ^ n) n (c % 2 ^ n) s small l) ∙ ap (λ x. bit_of x s) (div-add-mod' c (2 ^ n)))
+        rw low (sym (bit_low (c / 2 ^ n) n (c % 2 ^ n) s l) ∙ ap (λ x. bit_of x s) (div-add-mod' c (2 ^ n)))
     go (inr l) =
         let over : ltb s n ≡ false = le-ltb s n l in
         rw over (bit_over n (c % 2 ^ n) s small l)

@@ -1,9 +1,9 @@
 -- What the codes of sets keep.
-use Rattle.std.proofs.Common.{◌≡◌, ℕ, zero, suc, ◌+◌, ◌-◌, ◌*◌, ◌/◌, ◌%◌, ◌^◌, ◌<◌, ◌≤◌, Bool, true, false, cond, ◌||◌, eqb, ◌⊎◌, Decides, sym, refl, ap, ◌∙◌, inl, inr, pow-suc, add-one, arith, pow_mono}
-use native.Mathlib.Nat.{div-eq_of_lt}
-use lib.Pow.{field, mod-mod-pow, low, high}
+use Rattle.std.proofs.Common.{◌≡◌, ℕ, zero, suc, ◌+◌, ◌*◌, ◌/◌, ◌%◌, ◌^◌, ◌<◌, ◌≤◌, Bool, true, false, cond, ◌||◌, eqb, ◌⊎◌, Decides, sym, refl, ap, ◌∙◌, inl, inr, pow-suc, arith}
+use lib.Pow.{high}
 use lib.Bits.{bit_or, or_block}
 use Rattle.std.proofs.lemmas.Nat.{pow_pos, div-add-mod', mod_below, div_below}
+use Rattle.std.proofs.lemmas.Nat.Bits.{bit_at_cat_low, bit_at_above}
 use Rattle.std.proofs.lemmas.Bool.{eq-eqb, ne_eqb, cases_order, or_left, or_right}
 use Rattle.std.proofs.lemmas.Bool.Decides.{Decides-below_or}
 use Rattle.codes.specs.Codes.{bit_of, code_of, some}
@@ -58,17 +58,14 @@ only_code (suc n) s h = go (λ l. only_code n s l) (cases_order s n)
     go ih (inr (inr l)) = absurd (omega arith)
 
 -- what lies above bit s does not change it
-pub bit_low : (a n r s : ℕ) → r < 2 ^ n → s < n → bit_of (a * 2 ^ n + r) s ≡ bit_of r s
+pub bit_low : (a n r s : ℕ) → s < n → bit_of (a * 2 ^ n + r) s ≡ bit_of r s
 unfolding bit_of
-bit_low a n r s h l =
-    let x : ℕ = a * 2 ^ n + r in
-    let j : ℕ = n - (1 + s) in
-    let split : j + (1 + s) ≡ n = omega arith in
-    let near : x % 2 ^ n ≡ r = low a n h in
-    let front : x % 2 ^ (1 + s) ≡ r % 2 ^ (1 + s) =
-    sym (mod-mod-pow x j (1 + s)) ∙ ap (λ k. x % 2 ^ k % 2 ^ (1 + s)) split ∙ ap (λ y. y % 2 ^ (1 + s)) near in
-    let same : x / 2 ^ s % 2 ≡ r / 2 ^ s % 2 = sym (field x 1 s) ∙ ap (λ y. y / 2 ^ s) front ∙ field r 1 s in
-    ap (λ y. eqb y 1) same
+bit_low a n r s l = ap (λ y. eqb y 1) (bit_at_cat_low a n r s l)
+
+-- a number has no bit that is too high for it
+pub bit_over : (n c s : ℕ) → c < 2 ^ n → n ≤ s → bit_of c s ≡ false
+unfolding bit_of
+bit_over n c s h l = ap (λ y. eqb y 1) (bit_at_above c n s h l)
 
 pub bit_code : (n : ℕ) (p : ℕ → Bool) (s : ℕ) → s < n → bit_of (code_of n p) s ≡ p s
 unfolding code_of bit_of
@@ -81,14 +78,11 @@ bit_code (suc n) p s h = go (λ l. bit_code n p s l) (cases_order s n)
         ap (λ y. eqb (y % 2) 1) top
         ∙ (elim (p n) as (λ b. eqb (cond b 1 0 % 2) 1 ≡ b) [ true ↦ refl | false ↦ refl ])
         ∙ ap p (sym e)
-    go ih (inr (inl l)) = bit_low (cond (p n) 1 0) n (code_of n p) s (code_lt n p) l ∙ ih l
+    go ih (inr (inl l)) = bit_low (cond (p n) 1 0) n (code_of n p) s l ∙ ih l
     go ih (inr (inr l)) = absurd (omega arith)
 
 pub bit_above : (n : ℕ) (p : ℕ → Bool) (s : ℕ) → n ≤ s → bit_of (code_of n p) s ≡ false
-unfolding bit_of
-bit_above n p s h =
-    let small : code_of n p < 2 ^ s = omega (arith, code_lt n p, pow_mono {i = n} {j = s} h) in
-    ap (λ y. eqb (y % 2) 1) (div-eq_of_lt small)
+bit_above n p s h = bit_over n (code_of n p) s (code_lt n p) h
 
 -- a code is determined by its bits
 pub code_bits : (n c : ℕ) → c < 2 ^ n → c ≡ code_of n (bit_of c)
@@ -102,7 +96,7 @@ code_bits (suc n) c h =
     let small : q < 2 = div_below c (2 ^ n) 2 (pow_pos n) (omega (arith, pow-suc 2 n)) in
     let ih : r ≡ code_of n (bit_of r) = code_bits n r rest in
     let same : code_of n (bit_of r) ≡ code_of n (bit_of c) =
-    code_ext n (bit_of r) (bit_of c) (λ s l. sym (ap (λ x. bit_of x s) (sym parts) ∙ bit_low q n r s rest l)) in
+    code_ext n (bit_of r) (bit_of c) (λ s l. sym (ap (λ x. bit_of x s) (sym parts) ∙ bit_low q n r s l)) in
     let top : cond (eqb (q % 2) 1) 1 0 ≡ q = top_digit q small in
     sym parts ∙ ap (λ x. x * 2 ^ n + r) (sym top) ∙ ap (λ x. cond (eqb (q % 2) 1) 1 0 * 2 ^ n + x) (ih ∙ same)
   where
@@ -124,8 +118,3 @@ some_at (suc n) p k h e = go (λ l. some_at n p k l e) (cases_order k n)
 pub some_decides : (p : ℕ → Bool) (P : ℕ → Type 0) → ((k : ℕ) → Decides (p k) (P k)) → (n : ℕ) → Decides (some n p) ((k : ℕ) × (k < n) × P k)
 unfolding some
 some_decides p P each n = Decides-below_or p P (λ m. some m p) each refl (λ _. refl) n
-
--- a loop's step: one more below
-pub some_more : (n : ℕ) (p : ℕ → Bool) → some (n + 1) p ≡ (p n || some n p)
-unfolding some
-some_more n p = rw add-one

@@ -1,9 +1,10 @@
 -- Sets of numbers as codes: bit s of the code says whether s is of the set.
-use Rattle.std.specs.Prelude.{ℕ, zero, suc, ◌+◌, ◌*◌, ◌/◌, ◌%◌, ◌^◌, Bool, false, cond, ◌||◌, ◌==◌, nat_lt}
+use Rattle.std.specs.Prelude.{ℕ, zero, suc, ◌+◌, ◌*◌, ◌^◌, Bool, false, cond, ◌||◌, ◌==◌, nat_lt}
+use Rattle.std.specs.Int.{bit_at}
 
 -- bit s of n; a number below 2 ^ 64 has none of 64 or more
 unfoldable pub bit_of : ℕ → ℕ → Bool
-bit_of n s = n / 2 ^ s % 2 == 1
+bit_of n s = bit_at n s == 1
 
 -- the number below 2 ^ 64 with bit s alone, or 0 if there is none
 unfoldable pub only_bit : ℕ → ℕ

@@ -1,5 +1,5 @@
 // Bits of codes. A code is an unsigned 64-bit number that stands for a set of numbers below 64: bit
-// s is set where s is of the set.
+// s is set where s is of the set. Codes stay plain numbers, since rows that the caller lends keep them.
 #![tactic(auto)]
 
 ghost use Rattle.std.specs.Prelude.{◌≡◌};

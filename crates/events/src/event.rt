@@ -13,7 +13,7 @@ pub struct Action {
 }
 
 // An action that a trace has accepted. The place is its number among its thread's accepted events,
-// from 1.
+// from 1. The fields stay beside it and not in an Action, so that both are read by the same names.
 #[derive(Clone, Copy, Debug, PartialEq, Eq)]
 pub struct Event {
     pub thread: u8,

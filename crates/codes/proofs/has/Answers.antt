@@ -1,13 +1,13 @@
-use Rattle.std.proofs.Common.{◌/◌, ◌^◌, ◌<◌, eqb, sym, ap, ◌∙◌, arith}
-use lib.Bits.{and_mask}
+use Rattle.std.proofs.Common.{◌^◌, ◌<◌, eqb, sym, ap, ◌∙◌, arith}
+use Rattle.std.proofs.lemmas.Nat.Bits.{shr_and_one}
 use Rattle.std.proofs.lemmas.Bool.{le-ltb}
 use Rattle.codes.specs.Codes.{bit_of}
-use Rattle.codes.proofs.Bitwise.{bit_over}
+use Rattle.codes.proofs.Codes.{bit_over}
 use Rattle.codes.proofs.has.Goals as goal
 
 pub returns-then-bit-lt64 : goal.returns-then-bit-lt64
 unfolding bit_of
-returns-then-bit-lt64 c = ap (λ y. eqb y 1) (and_mask (c.args.code / 2 ^ c.args.bit) 1)
+returns-then-bit-lt64 c = ap (λ y. eqb y 1) (shr_and_one c.args.code c.args.bit)
 
 pub returns-else-bit-lt64 : goal.returns-else-bit-lt64
 returns-else-bit-lt64 c =
