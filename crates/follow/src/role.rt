@@ -16,11 +16,11 @@ pub(crate) enum Role {
 pub(crate) fn role_of(kind: u8, subject: u8) -> Role
     ensures { RoleOf kind subject result }
 {
-    match Kind::of(kind) {
-        Some(Kind::Read) if subject < 32 => Role::Take(subject as usize),
-        Some(Kind::Write) if subject < 32 => Role::Lead(subject as usize),
-        Some(Kind::Acquire) if subject < 16 => Role::Lead(32 + subject as usize),
-        Some(Kind::Release) if subject < 16 => Role::Take(32 + subject as usize),
+    match Kind::try_from(kind) {
+        Ok(Kind::Read) if subject < 32 => Role::Take(subject as usize),
+        Ok(Kind::Write) if subject < 32 => Role::Lead(subject as usize),
+        Ok(Kind::Acquire) if subject < 16 => Role::Lead(32 + subject as usize),
+        Ok(Kind::Release) if subject < 16 => Role::Take(32 + subject as usize),
         _ => Role::Apart,
     }
 }
