@@ -14,11 +14,12 @@ use Rattle.order.proofs.Following.{not_yet, missing_unfed, unfed_missing, may_fo
 use Rattle.std.proofs.lemmas.Bool.{eqb-true, eqb-false, not-true, not-false, false≢true}
 use Rattle.follow.specs.declared.role.Role.{Role}
 use Rattle.follow.specs.declared.role.Role.TheVariants.{Lead, Take, Apart}
+use Rattle.follow.specs.declared.tables.Standing.{Standing}
 use Rattle.follow.specs.declared.tables.Tables.{Tables}
 use Rattle.follow.specs.Balance.{Reached, Follower, over_threads}
 use Rattle.follow.specs.Roles.{Takes, LeadsOf, RoleOf}
-use Rattle.follow.specs.Made.{slot_of, MadeOf}
-use Rattle.follow.specs.Looking.{led_in, taken_in, unbalanced, BlockedAs, BlockedBy}
+use Rattle.follow.specs.Made.{standing_in, groups_in, source_of, MadeOf}
+use Rattle.follow.specs.Looking.{HasSource, led_in, taken_in, unbalanced, BlockedAs, BlockedBy}
 use Rattle.follow.proofs.Balance.{none_waits, one_waits}
 
 module _ (es : List Event) (v : Tables) (made : MadeOf es v) (cut : List ℕ) where
@@ -40,20 +41,23 @@ module _ (es : List Event) (v : Tables) (made : MadeOf es v) (cut : List ℕ) wh
   no_thread t l i n = omega (arith, n.own, made.few i n.noted)
 
   module _ (reached : Reached es c) (t i : ℕ) (next : HasNext es c t i) where
-    abbrev at : ℕ
-    at = slot_of t (suc (c t))
+    abbrev standing : Standing
+    standing = standing_in v t (suc (c t))
 
-    slot_here : slot_of (thread_at es i) (place_at es i) ≡ at
-    slot_here = ap (λ z. slot_of z (place_at es i)) next.own ∙ ap (slot_of t) next.place
+    here : standing_in v (thread_at es i) (place_at es i) ≡ standing
+    here = ap (λ z. standing_in v z (place_at es i)) next.own ∙ ap (standing_in v t) next.place
 
-    pub event_here : get_or v.events at blank ≡ get_or es i blank
-    event_here = ap (λ z. get_or v.events z blank) (sym slot_here) ∙ made.events i next.noted
+    pub event_here : standing.event ≡ get_or es i blank
+    event_here = ap (λ (x : Standing). x.event) (sym here) ∙ made.events i next.noted
 
     abbrev SourceIs : ℕ × ℕ → Type 0
     SourceIs p = Source es i p.0 p.1
 
-    source_here : SourceIs (get_or v.sources at (0, 0))
-    source_here = subst (λ z. SourceIs (get_or v.sources z (0, 0))) slot_here (made.sources i next.noted)
+    abbrev from : ℕ × ℕ
+    from = source_of standing.source
+
+    source_here : SourceIs from
+    source_here = subst (λ (x : Standing). SourceIs (source_of x.source)) here (made.sources i next.noted)
 
     few_255 : (j : ℕ) → j < length es → thread_at es j < 255
     few_255 j l = omega (arith, made.few j l)
@@ -64,9 +68,9 @@ module _ (es : List Event) (v : Tables) (made : MadeOf es v) (cut : List ℕ) wh
     supplied_by_lem p (inr s) h = inl s.1
 
     -- the source decides whether an event before is missing
-    pub none_missing : (8 ≤ (get_or v.sources at (0, 0)).0) ⊎ ((get_or v.sources at (0, 0)).1 ≤ get_or cut (get_or v.sources at (0, 0)).0 0) → Missing es c i → ⊥
+    pub none_missing : HasSource cut standing.source → Missing es c i → ⊥
     none_missing h m =
-        (source_unfed es made.sound few_255 c i _ _ source_here).0 (supplied_by_lem (get_or v.sources at (0, 0)) source_here h)
+        (source_unfed es made.sound few_255 c i _ _ source_here).0 (supplied_by_lem from source_here h)
         (missing_unfed es c t i next (fair es made.sound reached.1).closed m)
 
     missing_by : (p : ℕ × ℕ) → SourceIs p → ((8 ≤ p.0) ⊎ (p.1 ≤ get_or cut p.0 0) → ⊥) → Missing es c i
@@ -75,11 +79,11 @@ module _ (es : List Event) (v : Tables) (made : MadeOf es v) (cut : List ℕ) wh
         (s.0, s.1, λ h. let q : c p.0 ≡ c (thread_at es s.0) = ap c s.2 in n (inr (omega (arith, s.3))))
     missing_by p (inr s) n = absurd (n (inl (omega (arith, s.1))))
 
-    pub one_missing : ((8 ≤ (get_or v.sources at (0, 0)).0) ⊎ ((get_or v.sources at (0, 0)).1 ≤ get_or cut (get_or v.sources at (0, 0)).0 0) → ⊥) → Missing es c i
-    one_missing n = missing_by (get_or v.sources at (0, 0)) source_here n
+    pub one_missing : (HasSource cut standing.source → ⊥) → Missing es c i
+    one_missing n = missing_by from source_here n
 
     abbrev Sums : ℕ → Type 0
-    Sums b = get_or v.starts b 0 + over_threads (led_in v cut b) 8 ≡ over_threads (taken_in v cut b) 8
+    Sums b = (groups_in v b).starting + over_threads (led_in v cut b) 8 ≡ over_threads (taken_in v cut b) 8
 
     unbalanced_true : (b : ℕ) → unbalanced v cut b ≡ true → Sums b → ⊥
     unbalanced_true b h = eqb-false _ _ (not-true _ h)
@@ -90,12 +94,12 @@ module _ (es : List Event) (v : Tables) (made : MadeOf es v) (cut : List ℕ) wh
     module _ (k s b : ℕ) (follower : Follower k) (takes : Takes k s b) (small : (u : ℕ) → u < 8 → get_or cut u 0 < 256) where
       some_waits : (Sums b → ⊥) → (j : ℕ) × Waiting es c k s j
       some_waits =
-          one_waits es made.sound made.few c (fair es made.sound reached.1).closed k s follower (get_or v.starts b 0) (made.starts k s b takes)
+          one_waits es made.sound made.few c (fair es made.sound reached.1).closed k s follower (groups_in v b).starting (made.starts k s b takes)
           (led_in v cut b) (taken_in v cut b) (λ u l. made.led k s b takes u (get_or cut u 0) l (small u l)) (λ u l. made.taken k s b takes u (get_or cut u 0) l (small u l))
 
       nothing_waits : Sums b → (j : ℕ) → Waiting es c k s j → ⊥
       nothing_waits =
-          none_waits es made.sound made.few c (fair es made.sound reached.1).closed k s follower (get_or v.starts b 0) (made.starts k s b takes)
+          none_waits es made.sound made.few c (fair es made.sound reached.1).closed k s follower (groups_in v b).starting (made.starts k s b takes)
           (led_in v cut b) (taken_in v cut b) (λ u l. made.led k s b takes u (get_or cut u 0) l (small u l)) (λ u l. made.taken k s b takes u (get_or cut u 0) l (small u l))
 
     out : In es c i → ⊥

@@ -1,5 +1,5 @@
 -- What the tables answer, as a function of the cut and the thread, is right at every cut that a path reaches.
-use Rattle.std.proofs.Common.{◌≡◌, ℕ, suc, ◌+◌, ◌<◌, ◌≤◌, Bool, true, false, cond, ◌&&◌, ◌||◌, eqb, ltb, leb, ◌⊎◌, List, get_or, Ok, Err, Decides, sym, refl, ap, ◌∙◌, inl, inr, arith}
+use Rattle.std.proofs.Common.{◌≡◌, ℕ, suc, ◌+◌, ◌<◌, ◌≤◌, Bool, true, false, cond, ◌&&◌, ◌||◌, eqb, ltb, leb, Option, List, get_or, Ok, Err, Decides, sym, refl, ap, ◌∙◌, inl, inr, arith}
 use Rattle.std.proofs.lemmas.Bool.{eqb-true, eq-eqb, ltb-true, lt-ltb, leb-true, leb-false, le-leb, lt-leb, and_parts, and_from, or_from, or_left, or_right, cond-true, cond-false, both_ways}
 use Rattle.std.proofs.lemmas.Bool.Decides.{same_from_decides, not_from_Decides, Decides-or}
 use Rattle.events.specs.declared.event.Event.{Event}
@@ -9,12 +9,13 @@ use Rattle.order.specs.Reached.{cut_of}
 use Rattle.follow.specs.declared.no_next.NoNext.TheVariants as because
 use Rattle.follow.specs.declared.role.Role.{Role}
 use Rattle.follow.specs.declared.role.Role.TheVariants.{Lead, Take, Apart}
+use Rattle.follow.specs.declared.tables.Standing.{Standing}
 use Rattle.follow.specs.declared.tables.Tables.{Tables}
 use Rattle.follow.specs.Balance.{Reached}
 use Rattle.follow.specs.Answers.{Answers}
 use Rattle.follow.specs.Roles.{RoleOf, Takes, LeadsOf}
-use Rattle.follow.specs.Looking.{BlockedAs, BlockedBy, role_for, blocked_as, supplied_by, told_of, next_in}
-use Rattle.follow.specs.Made.{slot_of, MadeOf}
+use Rattle.follow.specs.Looking.{HasSource, BlockedAs, BlockedBy, role_for, blocked_as, supplied_by, told_of, next_in}
+use Rattle.follow.specs.Made.{standing_in, source_of, MadeOf}
 use Rattle.follow.proofs.Looking.{next_of, none_next, no_thread, event_here, none_missing, one_missing, is_free, is_blocked, follows}
 
 -- the role that is computed is the one that is meant
@@ -76,16 +77,13 @@ module _ (k s : ℕ) where
   one_role Apart (Lead b) x y = absurd ((x b).1 y.1)
   one_role Apart Apart x y = refl
 
--- in the cut, or none
-abbrev Has : List ℕ → ℕ × ℕ → Type 0
-Has cut source = (8 ≤ source.0) ⊎ (source.1 ≤ get_or cut source.0 0)
-
 decides_leb : (a b : ℕ) → Decides (leb a b) (a ≤ b)
 decides_leb a b = (leb-true a b, le-leb a b)
 
-pub decides_supplied : (cut : List ℕ) (source : ℕ × ℕ) → Decides (supplied_by cut source) (Has cut source)
+pub decides_supplied : (cut : List ℕ) (source : Option (ℕ × ℕ)) → Decides (supplied_by cut source) (HasSource cut source)
 decides_supplied cut source =
-    Decides-or (leb 8 source.0) (leb source.1 (get_or cut source.0 0)) (decides_leb 8 source.0) (decides_leb source.1 (get_or cut source.0 0))
+    let from : ℕ × ℕ = source_of source in
+    Decides-or (leb 8 from.0) (leb from.1 (get_or cut from.0 0)) (decides_leb 8 from.0) (decides_leb from.1 (get_or cut from.0 0))
 
 module _ (v : Tables) (cut : List ℕ) where
   told_as : (r : Bool) (role : Role) → BlockedAs v cut role r → r ≡ blocked_as v cut role
@@ -97,20 +95,20 @@ module _ (v : Tables) (cut : List ℕ) where
   blocked_value e r h =
       told_as r h.0 h.2 ∙ ap (blocked_as v cut) (one_role e.kind e.subject h.0 (role_for e.kind e.subject) h.1 (role_for_lem e.kind e.subject))
 
-  module _ (t at : ℕ) (is : at ≡ slot_of t (get_or cut t 0 + 1)) (few : t < 8) (more : get_or cut t 0 < get_or v.counts t 0) where
-    abbrev source : ℕ × ℕ
-    source = get_or v.sources at (0, 0)
+  module _ (t : ℕ) (standing : Standing) (is : standing ≡ standing_in v t (suc (get_or cut t 0))) (few : t < 8) (more : get_or cut t 0 < get_or v.counts t 0) where
+    abbrev source : Option (ℕ × ℕ)
+    source = standing.source
 
     abbrev event : Event
-    event = get_or v.events at blank
+    event = standing.event
 
     told_value : next_in v cut t ≡ told_of v cut source event
     told_value =
         cond-false (leb 8 t || leb (get_or v.counts t 0) (get_or cut t 0)) _ _
         (or_from (leb 8 t) (leb (get_or v.counts t 0) (get_or cut t 0)) (lt-leb 8 t few) (lt-leb (get_or v.counts t 0) (get_or cut t 0) more))
-        ∙ ap (λ z. told_of v cut (get_or v.sources z (0, 0)) (get_or v.events z blank)) (let e : slot_of t (suc (get_or cut t 0)) ≡ at = omega arith in e)
+        ∙ ap (λ (x : Standing). told_of v cut x.source x.event) (sym is)
 
-    module _ (s : Bool) (supplied : Decides s (Has cut source)) where
+    module _ (s : Bool) (supplied : Decides s (HasSource cut source)) where
       supplied_value : supplied_by cut source ≡ s
       supplied_value = same_from_decides (supplied_by cut source) s (decides_supplied cut source) supplied
 
@@ -142,16 +140,16 @@ module _ (es : List Event) (v : Tables) (made : MadeOf es v) (cut : List ℕ) (r
   as_blocked Apart = refl
 
   module _ (few : t < 8) (more : get_or cut t 0 < get_or v.counts t 0) where
-    abbrev at : ℕ
-    at = slot_of t (suc (get_or cut t 0))
+    abbrev standing : Standing
+    standing = standing_in v t (suc (get_or cut t 0))
 
     abbrev e : Event
-    e = get_or v.events at blank
+    e = standing.event
 
     next : (i : ℕ) × HasNext es (cut_of cut) t i
     next = next_of es v made cut t few more
 
-    full : Has cut (get_or v.sources at (0, 0)) → Missing es (cut_of cut) next.0 → ⊥
+    full : HasSource cut standing.source → Missing es (cut_of cut) next.0 → ⊥
     full has = none_missing es v made cut reached t next.0 next.1 has
 
     event_is : e ≡ get_or es next.0 blank
@@ -160,18 +158,18 @@ module _ (es : List Event) (v : Tables) (made : MadeOf es v) (cut : List ℕ) (r
     blocked_by : BlockedBy v cut e (blocked_as v cut (role_for e.kind e.subject))
     blocked_by = (role_for e.kind e.subject, role_for_lem e.kind e.subject, as_blocked (role_for e.kind e.subject))
 
-    told_right : (s r : Bool) → supplied_by cut (get_or v.sources at (0, 0)) ≡ s → blocked_as v cut (role_for e.kind e.subject) ≡ r
+    told_right : (s r : Bool) → supplied_by cut standing.source ≡ s → blocked_as v cut (role_for e.kind e.subject) ≡ r
         → Answers es (cut_of cut) t (cond s (cond r (Err because.Blocked) (Ok e)) (Err because.Missing))
     told_right false r p q = (
       next.0,
       next.1,
-      one_missing es v made cut reached t next.0 next.1 (not_from_Decides _ (decides_supplied cut (get_or v.sources at (0, 0))) p),
+      one_missing es v made cut reached t next.0 next.1 (not_from_Decides _ (decides_supplied cut standing.source) p),
     )
     told_right true true p q =
-        let has = (decides_supplied cut (get_or v.sources at (0, 0))).0 p in
+        let has = (decides_supplied cut standing.source).0 p in
         (next.0, next.1, full has, is_blocked es v made cut reached t next.0 next.1 (full has) e event_is _ blocked_by q)
     told_right true false p q =
-        let has = (decides_supplied cut (get_or v.sources at (0, 0))).0 p in (
+        let has = (decides_supplied cut standing.source).0 p in (
           next.0,
           follows es v made cut reached t next.0 next.1 (full has) (is_free es v made cut reached t next.0 next.1 (full has) e event_is _ blocked_by q),
           next.1.own,
@@ -179,7 +177,7 @@ module _ (es : List Event) (v : Tables) (made : MadeOf es v) (cut : List ℕ) (r
         )
 
   answers_by : (a b : Bool) → leb 8 t ≡ a → leb (get_or v.counts t 0) (get_or cut t 0) ≡ b
-      → Answers es (cut_of cut) t (cond (a || b) (Err because.Done) (told_of v cut (get_or v.sources (slot_of t (suc (get_or cut t 0))) (0, 0)) (get_or v.events (slot_of t (suc (get_or cut t 0))) blank)))
+      → Answers es (cut_of cut) t (cond (a || b) (Err because.Done) (told_of v cut (standing_in v t (suc (get_or cut t 0))).source (standing_in v t (suc (get_or cut t 0))).event))
   answers_by true b p q = no_thread es v made cut t (leb-true 8 t p)
   answers_by false true p q = none_next es v made cut t (leb-false 8 t p) (leb-true (get_or v.counts t 0) (get_or cut t 0) q)
   answers_by false false p q = told_right (leb-false 8 t p) (leb-false (get_or v.counts t 0) (get_or cut t 0) q) _ _ refl refl

@@ -1,27 +1,30 @@
 -- What the look-ups add up.
-use Rattle.std.specs.Prelude.{◌≡◌, ℕ, suc, ◌+◌, ◌<◌, Bool, false, cond, not, ◌&&◌, ◌||◌, List, Ok, Err, Result, ◌==◌, nat_le, nat_lt, slice_index, slice_index_or}
+use Rattle.std.specs.Prelude.{◌≡◌, ℕ, suc, ◌+◌, ◌<◌, ◌≤◌, ◌⊎◌, Bool, false, cond, not, ◌&&◌, ◌||◌, Option, List, Ok, Err, Result, ◌==◌, nat_le, nat_lt, slice_index}
 use Rattle.events.specs.declared.event.Event.{Event}
-use Rattle.order.specs.Trace.{blank}
 use Rattle.follow.specs.declared.no_next.NoNext.{NoNext}
 use Rattle.follow.specs.declared.no_next.NoNext.TheVariants as because
 use Rattle.follow.specs.declared.role.Role.{Role}
 use Rattle.follow.specs.declared.role.Role.TheVariants.{Lead, Take, Apart}
 use Rattle.follow.specs.declared.tables.Tables.{Tables}
 use Rattle.follow.specs.Balance.{over_threads}
-use Rattle.follow.specs.Made.{slot_of, cell_of}
+use Rattle.follow.specs.Made.{standing_in, groups_in, tally_in, source_of}
 use Rattle.follow.specs.Roles.{RoleOf}
+
+-- a source is in the cut, or is none
+abbrev pub HasSource : List ℕ → Option (ℕ × ℕ) → Type 0
+HasSource cut source = (8 ≤ (source_of source).0) ⊎ ((source_of source).1 ≤ slice_index cut (source_of source).0)
 
 -- object b in the cut, by thread: how many are led in, and how many are taken
 abbrev pub led_in : Tables → List ℕ → ℕ → ℕ → ℕ
-led_in tables cut b t = slice_index tables.led (cell_of t (slice_index cut t) b)
+led_in tables cut b t = (tally_in tables t (slice_index cut t) b).led
 
 abbrev pub taken_in : Tables → List ℕ → ℕ → ℕ → ℕ
-taken_in tables cut b t = slice_index tables.taken (cell_of t (slice_index cut t) b)
+taken_in tables cut b t = (tally_in tables t (slice_index cut t) b).taken
 
 -- they do not add up to the same
 abbrev pub unbalanced : Tables → List ℕ → ℕ → Bool
 unbalanced tables cut b =
-    not (slice_index tables.starts b + over_threads (led_in tables cut b) 8 == over_threads (taken_in tables cut b) 8)
+    not ((groups_in tables b).starting + over_threads (led_in tables cut b) 8 == over_threads (taken_in tables cut b) 8)
 
 -- an event of this role is blocked
 abbrev pub BlockedAs : Tables → List ℕ → Role → Bool → Type 0
@@ -45,11 +48,11 @@ blocked_as tables cut (Take b) = false
 blocked_as tables cut Apart = false
 
 -- whether a source is in the cut, or is none
-abbrev pub supplied_by : List ℕ → ℕ × ℕ → Bool
-supplied_by cut source = nat_le 8 source.0 || nat_le source.1 (slice_index cut source.0)
+abbrev pub supplied_by : List ℕ → Option (ℕ × ℕ) → Bool
+supplied_by cut source = nat_le 8 (source_of source).0 || nat_le (source_of source).1 (slice_index cut (source_of source).0)
 
 -- what is said of the event e, which has this source
-abbrev pub told_of : Tables → List ℕ → ℕ × ℕ → Event → Result Event NoNext
+abbrev pub told_of : Tables → List ℕ → Option (ℕ × ℕ) → Event → Result Event NoNext
 told_of tables cut source e =
     cond (supplied_by cut source) (cond (blocked_as tables cut (role_for e.kind e.subject)) (Err because.Blocked) (Ok e)) (Err because.Missing)
 
@@ -57,4 +60,4 @@ told_of tables cut source e =
 abbrev pub next_in : Tables → List ℕ → ℕ → Result Event NoNext
 next_in tables cut t =
     cond (nat_le 8 t || nat_le (slice_index tables.counts t) (slice_index cut t)) (Err because.Done)
-    (told_of tables cut (slice_index_or tables.sources (slot_of t (suc (slice_index cut t))) (0, 0)) (slice_index_or tables.events (slot_of t (suc (slice_index cut t))) blank))
+    (let standing = standing_in tables t (suc (slice_index cut t)) in told_of tables cut standing.source standing.event)

@@ -1,68 +1,68 @@
 // How the tables are made.
 ghost use Rattle.std.specs.Prelude.{◌≡◌, ℕ, ◌<◌};
 ghost use Rattle.events.specs.Noting.{Opening, Noted};
-ghost use Rattle.follow.specs.Filling.{placed, taking, Entered, raised, Summed, SummedAt};
+ghost use Rattle.follow.specs.Filling.{one_more, both, taking, Entered, Summed, SummedAt};
 ghost use Rattle.follow.specs.Made.{MadeOf, Small};
 
 use crate::role::{Role, role_of};
-use crate::tables::{CELLS, OBJECTS, Tables, slot};
+use crate::tables::{CELLS, OBJECTS, PLACES, Standing, THREADS, Tables, Tally, cell, slot};
 use events::Event;
-use order::Row;
 
 // The cells of one thread: a row for each count.
-const THREAD_CELLS: usize = 12288;
+const THREAD_CELLS: usize = PLACES * OBJECTS;
 
-// One more in a cell.
-fn raise(table: &mut [u16; CELLS], at: usize)
-    requires { at < 98304 }
-    ensures { table.new ≡ raised table.old at }
+// One more.
+fn raise(count: &mut u16)
+    ensures { count.new ≡ one_more count.old }
 {
-    table[at] = table[at].wrapping_add(1);
+    *count = count.wrapping_add(1);
 }
 
-// Sums a table up over the places of one thread.
-fn sum_thread(table: &mut [u16; CELLS], thread: usize)
-    requires { thread < 8 }
-    ensures { SummedAt table.old table.new thread }
-{
-    let first = thread * THREAD_CELLS;
-    for i in first + OBJECTS..first + THREAD_CELLS {
-        table[i] = table[i].wrapping_add(table[i - OBJECTS]);
+impl Tally {
+    // Both together.
+    fn plus(self, other: Tally) -> Tally
+        ensures { result ≡ both self other }
+    {
+        Tally {
+            led: self.led.wrapping_add(other.led),
+            taken: self.taken.wrapping_add(other.taken),
+        }
     }
 }
 
-// Sums a table up over the places of each thread.
-fn sum_up(table: &mut [u16; CELLS])
-    ensures { Summed table.old table.new }
+// Sums the tallies of one thread up over its places.
+fn sum_thread(tallies: &mut [Tally; CELLS], thread: usize)
+    requires { thread < 8 }
+    ensures { SummedAt tallies.old tallies.new thread }
 {
-    for thread in 0..8 {
-        sum_thread(table, thread);
+    let first = thread * THREAD_CELLS;
+    for i in first + OBJECTS..first + THREAD_CELLS {
+        tallies[i] = tallies[i].plus(tallies[i - OBJECTS]);
+    }
+}
+
+// Sums the tallies of each thread up over its places.
+fn sum_up(tallies: &mut [Tally; CELLS])
+    ensures { Summed tallies.old tallies.new }
+{
+    for thread in 0..THREADS {
+        sum_thread(tallies, thread);
     }
 }
 
 impl Tables {
-    // Puts an event where it stands, with its source.
-    fn put(&mut self, e: Event, source: (u8, u8))
-        requires { e.thread < 8 }
-        ensures { self.new ≡ placed self.old e source }
-    {
-        let at = slot(e.thread, e.place);
-        self.counts[e.thread as usize] = e.place;
-        self.events[at] = e;
-        self.sources[at] = source;
-    }
-
     // Counts a read or a release in.
-    fn take(&mut self, e: Event, object: usize, source: (u8, u8))
+    fn take(&mut self, e: Event, object: usize, source: Option<(u8, u8)>)
         requires known { e.thread < 8 }
         requires numbered { object < 48 }
         ensures { self.new ≡ taking self.old e object source }
     {
-        raise(&mut self.taken, slot(e.thread, e.place) * OBJECTS + object);
-        if source.0 < 8 {
-            raise(&mut self.led, slot(source.0, source.1) * OBJECTS + object);
-        } else {
-            self.starts[object] = self.starts[object].wrapping_add(1);
+        raise(&mut self.tallies[cell(e.thread, e.place, object)].taken);
+        match source {
+            Some((thread, place)) if thread < 8 => {
+                raise(&mut self.tallies[cell(thread, place, object)].led);
+            }
+            _ => raise(&mut self.groups[object].starting),
         }
     }
 
@@ -71,18 +71,17 @@ impl Tables {
         requires { e.thread < 8 }
         ensures { Entered self.old e self.new }
     {
+        let mut source = None;
         match role_of(e.kind, e.subject) {
             Role::Take(object) => {
-                let source = self.latest[object];
-                self.put(e, source);
+                source = self.groups[object].latest;
                 self.take(e, object, source);
             }
-            Role::Lead(object) => {
-                self.put(e, Row::NO_SOURCE);
-                self.latest[object] = (e.thread, e.place);
-            }
-            Role::Apart => self.put(e, Row::NO_SOURCE),
+            Role::Lead(object) => self.groups[object].latest = Some((e.thread, e.place)),
+            Role::Apart => {}
         }
+        self.counts[e.thread as usize] = e.place;
+        self.standings[slot(e.thread, e.place)] = Standing { event: e, source };
     }
 
     // The tables of a list, in one pass over its events. Events of threads that no trace has are
@@ -96,8 +95,7 @@ impl Tables {
                 tables.enter(*e);
             }
         }
-        sum_up(&mut tables.led);
-        sum_up(&mut tables.taken);
+        sum_up(&mut tables.tallies);
         tables.total = events.len();
         tables
     }

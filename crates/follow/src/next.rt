@@ -6,24 +6,21 @@ ghost use Rattle.follow.specs.declared.no_next.NoNext.TheVariants.{Done};
 ghost use Rattle.follow.specs.Balance.{Reached};
 ghost use Rattle.follow.specs.Answers.{Answers};
 ghost use Rattle.follow.specs.Made.{MadeOf};
-ghost use Rattle.follow.specs.Looking.{unbalanced, BlockedBy, next_in};
+ghost use Rattle.follow.specs.Looking.{HasSource, unbalanced, BlockedBy, next_in};
 
 use crate::no_next::NoNext;
 use crate::role::{Role, role_of};
-use crate::tables::{OBJECTS, Tables, slot};
+use crate::tables::{Tables, cell, slot};
 use events::Event;
 
-// Threads are numbered below this.
-const THREADS: u8 = 8;
-
 // Whether a source is in the cut, or is none.
-fn supplied(cut: [u8; 8], source: (u8, u8)) -> bool
-    ensures { Decides result ((8 ≤ source.0) ⊎ (source.1 ≤ slice_index cut source.0)) }
+fn supplied(cut: [u8; 8], source: Option<(u8, u8)>) -> bool
+    ensures { Decides result (HasSource cut source) }
 {
-    if source.0 < 8 {
-        return source.1 <= cut[source.0 as usize];
+    match source {
+        Some((thread, place)) if thread < 8 => place <= cut[thread as usize],
+        _ => true,
     }
-    true
 }
 
 impl Tables {
@@ -33,12 +30,12 @@ impl Tables {
         ensures sums { result ≡ unbalanced self.now cut object }
         ensures small { (t : ℕ) → t < 8 → slice_index cut t < 256 }
     {
-        let mut led = self.starts[object] as u32;
+        let mut led = self.groups[object].starting as u32;
         let mut taken = 0u32;
-        for t in 0..8u8 {
-            let at = slot(t, cut[t as usize]) * OBJECTS + object;
-            led += self.led[at] as u32;
-            taken += self.taken[at] as u32;
+        for (t, &done) in cut.iter().enumerate() {
+            let tally = self.tallies[cell(t as u8, done, object)];
+            led += tally.led as u32;
+            taken += tally.taken as u32;
         }
         led != taken
     }
@@ -49,8 +46,7 @@ impl Tables {
     {
         match role_of(e.kind, e.subject) {
             Role::Lead(object) => self.waits(cut, object),
-            Role::Take(_) => false,
-            Role::Apart => false,
+            Role::Take(_) | Role::Apart => false,
         }
     }
 
@@ -61,21 +57,20 @@ impl Tables {
         ensures value { result ≡ next_in self.now cut thread }
         ensures more { (e : AnEvent) → result ≡ Ok e → (thread < 8) × (slice_index cut thread < 255) }
     {
-        if thread >= THREADS {
+        if thread >= 8 {
             return Err(NoNext::Done);
         }
         let done = cut[thread as usize];
         if done >= self.counts[thread as usize] {
             return Err(NoNext::Done);
         }
-        let at = slot(thread, done + 1);
-        if !supplied(cut, self.sources[at]) {
+        let standing = self.standings[slot(thread, done + 1)];
+        if !supplied(cut, standing.source) {
             return Err(NoNext::Missing);
         }
-        let e = self.events[at];
-        if self.blocked(cut, e) {
+        if self.blocked(cut, standing.event) {
             return Err(NoNext::Blocked);
         }
-        Ok(e)
+        Ok(standing.event)
     }
 }

@@ -4,39 +4,64 @@ ghost use Rattle.events.specs.declared.event.Event.{Event as AnEvent};
 ghost use Rattle.order.specs.Trace.{thread_at, place_at};
 ghost use Rattle.order.specs.Maps.{Source};
 ghost use Rattle.follow.specs.Filling.{blank_tables};
-ghost use Rattle.follow.specs.Made.{slot_of, MadeOf, source_in};
+ghost use Rattle.follow.specs.Made.{slot_of, cell_of, MadeOf, source_in};
 
 use events::Event;
 use order::Row;
 
+// Threads.
+pub(crate) const THREADS: usize = 8;
+
+// Of each thread the places of its events, and counts of them, 0 to 255.
+pub(crate) const PLACES: usize = 256;
+
 // Variables and locks.
 pub(crate) const OBJECTS: usize = 48;
 
-// A slot for each thread and each place or count, 0 to 255.
-pub(crate) const SLOTS: usize = 2048;
+// A slot for each thread and each place or count.
+pub(crate) const SLOTS: usize = THREADS * PLACES;
 
 // A cell for each slot and each object.
-pub(crate) const CELLS: usize = 98304;
+pub(crate) const CELLS: usize = SLOTS * OBJECTS;
+
+// What stands at a place of a thread.
+#[derive(Clone, Copy)]
+pub(crate) struct Standing {
+    pub(crate) event: Event,
+    // thread and place of the event that feeds it, if one does
+    pub(crate) source: Option<(u8, u8)>,
+}
+
+// The groups of an object.
+#[derive(Clone, Copy)]
+pub(crate) struct Groups {
+    // thread and place of its latest write or acquire, if there is one
+    pub(crate) latest: Option<(u8, u8)>,
+    // the size of its starting group
+    pub(crate) starting: u16,
+}
+
+// Of an object's reads or releases, with regard to a thread's first events.
+#[derive(Clone, Copy)]
+pub(crate) struct Tally {
+    // how many of them those events feed
+    pub(crate) led: u16,
+    // how many of them are among those events
+    pub(crate) taken: u16,
+}
 
 #[derive(Drop)]
 pub struct Tables {
     // how many events the list has
     pub(crate) total: usize,
     // of each thread, how many events it has
-    pub(crate) counts: [u8; 8],
-    // by thread and place, the event
-    pub(crate) events: [Event; SLOTS],
-    // by thread and place, thread and place of the event that feeds it, or `NO_SOURCE`
-    pub(crate) sources: [(u8, u8); SLOTS],
-    // of each object, thread and place of its latest write or acquire, or `NO_SOURCE`
-    pub(crate) latest: [(u8, u8); OBJECTS],
-    // of each object, the size of its starting group
-    pub(crate) starts: [u16; OBJECTS],
-    // by thread, count and object: how many of the object's reads or releases the thread's first
-    // events, as many as the count, feed
-    pub(crate) led: [u16; CELLS],
-    // by thread, count and object: how many of them are among those events
-    pub(crate) taken: [u16; CELLS],
+    pub(crate) counts: [u8; THREADS],
+    // by thread and place
+    pub(crate) standings: [Standing; SLOTS],
+    // by object
+    pub(crate) groups: [Groups; OBJECTS],
+    // by thread, count of its first events, and object
+    pub(crate) tallies: [Tally; CELLS],
 }
 
 impl Tables {
@@ -44,15 +69,20 @@ impl Tables {
     pub(crate) fn blank() -> Tables
         ensures { result ≡ blank_tables }
     {
+        let standing = Standing {
+            event: Event::BLANK,
+            source: None,
+        };
+        let groups = Groups {
+            latest: None,
+            starting: 0,
+        };
         Tables {
             total: 0,
-            counts: [0; 8],
-            events: [Event::BLANK; SLOTS],
-            sources: [Row::NO_SOURCE; SLOTS],
-            latest: [Row::NO_SOURCE; OBJECTS],
-            starts: [0; OBJECTS],
-            led: [0; CELLS],
-            taken: [0; CELLS],
+            counts: [0; THREADS],
+            standings: [standing; SLOTS],
+            groups: [groups; OBJECTS],
+            tallies: [Tally { led: 0, taken: 0 }; CELLS],
         }
     }
 
@@ -69,7 +99,9 @@ impl Tables {
         ensures feeds { (es : List AnEvent) → MadeOf es self.now → (i : ℕ) → i < length es → thread_at es i ≡ thread → place_at es i ≡ place → Source es i result.0 result.1 }
     {
         if thread < 8 {
-            return self.sources[slot(thread, place)];
+            return self.standings[slot(thread, place)]
+                .source
+                .unwrap_or(Row::NO_SOURCE);
         }
         Row::NO_SOURCE
     }
@@ -79,5 +111,13 @@ impl Tables {
 pub(crate) fn slot(thread: u8, place: u8) -> usize
     ensures { result ≡ slot_of thread place }
 {
-    thread as usize * 256 + place as usize
+    thread as usize * PLACES + place as usize
+}
+
+// Where an object's tally for a thread's first events stands, as many as the count.
+pub(crate) fn cell(thread: u8, count: u8, object: usize) -> usize
+    requires { object < 48 }
+    ensures { result ≡ cell_of thread count object }
+{
+    slot(thread, count) * OBJECTS + object
 }

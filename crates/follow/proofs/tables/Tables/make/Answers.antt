@@ -28,4 +28,4 @@ returns c = λ o small noted.
     let es : List Event = c.args.events.now in
     let all : c.loop-e.e-index ≡ length es = omega arith in
     made_of es (fit_of o es small noted) c.loop-e.tables _ (subst (λ z. Filled es z c.loop-e.tables) all (c.loop-e.invariant o small noted))
-    refl refl refl refl refl c.sum_up.ensures c.sum_up-2.ensures
+    refl refl refl refl c.sum_up.ensures

@@ -1,6 +1,7 @@
-use Rattle.std.proofs.Common.{◌≡◌, ℕ, suc, ◌+◌, ◌*◌, not, eqb, List, get_or, refl, ap, ◌∙◌, arith, below_more}
+use Rattle.std.proofs.Common.{◌≡◌, ℕ, suc, ◌+◌, not, eqb, List, get_or, refl, ap, ◌∙◌, arith, below_more}
 use Rattle.follow.specs.Balance.{over_threads}
-use Rattle.follow.specs.Made.{cell_of}
+use Rattle.follow.specs.declared.tables.Tally.{Tally}
+use Rattle.follow.specs.Made.{groups_in}
 use Rattle.follow.specs.Looking.{led_in, taken_in}
 use Rattle.follow.proofs.tables.Tables.waits.Goals as goal
 
@@ -21,9 +22,9 @@ loop-t-preserved c =
     let cut : List ℕ = c.args.cut in
     let t : ℕ = c.loop-t.t in
     let b : ℕ = c.args.object in
-    let at : c.slot.result * 48 + b ≡ cell_of t (get_or cut t 0) b = ap (λ z. z * 48 + b) c.slot.ensures in
-    let led = over_more (led_in c.args.self.now cut b) t (t + 1) (get_or c.args.self.now.led (c.slot.result * 48 + b) 0) refl (ap (λ z. get_or c.args.self.now.led z 0) at) in
-    let taken = over_more (taken_in c.args.self.now cut b) t (t + 1) (get_or c.args.self.now.taken (c.slot.result * 48 + b) 0) refl (ap (λ z. get_or c.args.self.now.taken z 0) at) in (
+    let tally : ℕ → Tally = λ z. get_or c.args.self.now.tallies z (record { led = 0; taken = 0 }) in
+    let led = over_more (led_in c.args.self.now cut b) t (t + 1) (tally c.cell.result).led refl (ap (λ z. (tally z).led) c.cell.ensures) in
+    let taken = over_more (taken_in c.args.self.now cut b) t (t + 1) (tally c.cell.result).taken refl (ap (λ z. (tally z).taken) c.cell.ensures) in (
       omega (arith, led, c.loop-t.invariant.0),
       omega (arith, taken, c.loop-t.invariant.1),
       omega (arith, c.loop-t.invariant.2),
@@ -34,9 +35,9 @@ loop-t-preserved c =
 pub returns : goal.returns
 returns c =
     let all : c.loop-t.t ≡ 8 = omega (arith, c.loop-t.auto) in
-    let led = c.loop-t.invariant.0 ∙ ap (λ n. get_or c.args.self.now.starts c.args.object 0 + over_threads (led_in c.args.self.now c.args.cut c.args.object) n) all in
+    let led = c.loop-t.invariant.0 ∙ ap (λ n. (groups_in c.args.self.now c.args.object).starting + over_threads (led_in c.args.self.now c.args.cut c.args.object) n) all in
     let taken = c.loop-t.invariant.1 ∙ ap (over_threads (taken_in c.args.self.now c.args.cut c.args.object)) all in
     record {
-      sums = ap (λ a. not (eqb a c.loop-t.taken)) led ∙ ap (λ a. not (eqb (get_or c.args.self.now.starts c.args.object 0 + over_threads (led_in c.args.self.now c.args.cut c.args.object) 8) a)) taken;
+      sums = ap (λ a. not (eqb a c.loop-t.taken)) led ∙ ap (λ a. not (eqb ((groups_in c.args.self.now c.args.object).starting + over_threads (led_in c.args.self.now c.args.cut c.args.object) 8) a)) taken;
       small = λ u l. c.loop-t.invariant.4 u (omega arith);
     }
