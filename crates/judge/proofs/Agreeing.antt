@@ -1,5 +1,5 @@
 -- The system that the tables of a noted list compute agrees with the system of its pairs on all pairs that can be reached.
-use Rattle.std.proofs.Common.{◌≡◌, ℕ, ◌≤◌, Bool, List, get_or, Some, None, sym, refl, ap, ◌∙◌, inl, inr, arith}
+use Rattle.std.proofs.Common.{◌≡◌, ℕ, ◌≤◌, Bool, List, get_or, Some, None, Ok, Err, Result, sym, refl, ap, ◌∙◌, inl, inr, arith}
 use Rattle.std.proofs.lemmas.Bool.{cases_eq}
 use Rattle.events.specs.declared.event.Event.{Event}
 use Rattle.events.specs.Noting.{Opening}
@@ -11,8 +11,7 @@ use Rattle.order.proofs.Cuts.{advance_own, advance_other}
 use Rattle.order.proofs.Noting.{within_of}
 use Rattle.explore.specs.Rows.{Row}
 use Rattle.explore.specs.Listing.{Holds}
-use Rattle.follow.specs.declared.answer.Follow.{Follow}
-use Rattle.follow.specs.declared.answer.Follow.TheVariants as answer
+use Rattle.follow.specs.declared.no_next.NoNext.{NoNext}
 use Rattle.follow.specs.declared.tables.Tables.{Tables}
 use Rattle.follow.specs.Answers.{Answers}
 use Rattle.follow.specs.Looking.{next_in}
@@ -45,16 +44,16 @@ module _ (o : Opening) (es : List Event) (n : ℕ) (m : Meaning) (recorded : Rec
   module _ (v : Tables) (made : MadeOf es v) where
     module _ (x : Pair) (t : ℕ) where
       -- an answer that is no event leads nowhere
-      nowhere : (f : Follow) → Answers es (cut_of x.cut) t f → ((e : Event) → answer.Next e ≡ f → ⊥) → (pairs es n m).next x t ≡ None
-      nowhere f a other =
+      nowhere : (why : NoNext) → Answers es (cut_of x.cut) t (Err why) → (pairs es n m).next x t ≡ None
+      nowhere why a =
           next-none es made.sound n m x t
-          (λ i may own. other (get_or es i blank) (one_answer es made.sound (cut_of x.cut) t (answer.Next (get_or es i blank)) f (i, may, own, refl) a))
+          (λ i may own.
+          let e = one_answer es made.sound (cut_of x.cut) t (Ok (get_or es i blank)) (Err why) (i, may, own, refl) a in
+          let z : ◌≡◌ {A = ℕ} 0 1 = cc in omega arith)
 
-      by_answer : (f : Follow) → Answers es (cut_of x.cut) t f → moved_as m x t f ≡ (pairs es n m).next x t
-      by_answer (answer.Next e) a = ap (λ (z : Event). Some (moved m x t z)) a.3 ∙ sym (next_moves es made.sound n m x t a.0 a.1 a.2)
-      by_answer answer.Done a = sym (nowhere answer.Done a (λ e h. let z : ◌≡◌ {A = ℕ} 0 1 = cc in omega arith))
-      by_answer answer.Missing a = sym (nowhere answer.Missing a (λ e h. let z : ◌≡◌ {A = ℕ} 0 1 = cc in omega arith))
-      by_answer answer.Blocked a = sym (nowhere answer.Blocked a (λ e h. let z : ◌≡◌ {A = ℕ} 0 1 = cc in omega arith))
+      by_answer : (f : Result Event NoNext) → Answers es (cut_of x.cut) t f → moved_as m x t f ≡ (pairs es n m).next x t
+      by_answer (Ok e) a = ap (λ (z : Event). Some (moved m x t z)) a.3 ∙ sym (next_moves es made.sound n m x t a.0 a.1 a.2)
+      by_answer (Err why) a = sym (nowhere why a)
 
     agree : Agree (tabled v n m) (pairs es n m)
     agree = record {

@@ -1,11 +1,10 @@
 -- What an exploration leaves is judged.
-use Rattle.std.proofs.Common.{◌≡◌, ℕ, ◌-◌, ◌≤◌, Bool, true, false, ltb, List, [], ◌∷◌, length, take, drop, is_some, Some, None, Ok, Err, Option, sym, refl, ap, ◌∙◌, subst, ap₂, arith}
+use Rattle.std.proofs.Common.{◌≡◌, ℕ, ◌≤◌, Bool, true, false, ltb, List, [], ◌∷◌, length, take, drop, None, Ok, Err, Option, sym, refl, subst, arith}
 use Rattle.std.proofs.lemmas.List.{length-take-le, take_all}
 use Rattle.std.proofs.lemmas.Bool.{ltb-false}
 use Rattle.events.specs.declared.event.Event.{Event}
-use Rattle.events.specs.declared.refusal.OpenRefusal.{OpenRefusal}
 use Rattle.events.specs.First.{first_fit}
-use Rattle.events.specs.Noting.{Opening, Noted}
+use Rattle.events.specs.Noting.{Opening, is_void, Noted}
 use Rattle.trace.specs.declared.Trace.{Trace}
 use Rattle.trace.specs.Meaning.{opening_of, noted_of}
 use Rattle.explore.specs.Listing.{Holds}
@@ -27,31 +26,19 @@ use Rattle.judge.proofs.Rows.{many_viewed}
 use Rattle.judge.proofs.Agreeing.{holds_pairs}
 use Rattle.judge.proofs.Deciding.{answered}
 
--- the tests, as the code makes them
-abbrev pub tests : Opening → List Event → List SearchRow → List ℕ → List (Bool × JudgeRefusal)
-tests o es rows list = (is_some o.void, refusal.Void) ∷ (ltb 65536 (length rows), refusal.Rows) ∷ (ltb (length list) (length es), refusal.Threads) ∷ []
-
-void_is : (q : Option OpenRefusal) → is_some q ≡ (elim q [ Some why ↦ true | None ↦ false ])
-void_is (Some why) = refl
-void_is None = refl
-
-not_last : (a b c : Bool) → None ≡ first_fit ((a, refusal.Void) ∷ (b, refusal.Rows) ∷ (c, refusal.Threads) ∷ []) → c ≡ false
+not_last : (a b c : Bool) → first_fit ((a, refusal.Void) ∷ (b, refusal.Rows) ∷ (c, refusal.Threads) ∷ []) ≡ None → c ≡ false
 not_last true b c h = let z : ◌≡◌ {A = ℕ} 0 1 = cc in absurd (omega arith)
 not_last false true c h = let z : ◌≡◌ {A = ℕ} 0 1 = cc in absurd (omega arith)
 not_last false false true h = let z : ◌≡◌ {A = ℕ} 0 1 = cc in absurd (omega arith)
 not_last false false false h = refl
 
 module _ (o : Opening) (es : List Event) (m : Meaning) (recorded : Recorded o es o.threads) (v : Tables) (made : MadeOf es v) (n : ℕ) (threads : n ≡ o.threads)
-    (rows rows' : List SearchRow) (list : List ℕ) (len : ℕ) (complete : Bool) (granted : None ≡ first_fit (tests o es rows list))
+    (rows rows' : List SearchRow) (list : List ℕ) (len : ℕ) (complete : Bool) (granted : first_fit (judge_tests o es (length rows) (length list)) ≡ None)
     (within : len ≤ length rows) (found : Holds (tabled v n m) (length rows) (viewed (take len rows')) complete)
     (beyond : drop len rows' ≡ drop len rows) (kept : length rows' ≡ length rows) where
   holds : Holds (pairs es o.threads m) (length rows) (viewed (take len rows')) complete
   holds = holds_pairs o es o.threads m recorded v made (length rows) (viewed (take len rows')) complete
       (subst (λ k. Holds (tabled v k m) (length rows) (viewed (take len rows')) complete) threads found)
-
-  no_reason : None ≡ first_fit (judge_tests o es (length rows) (length list))
-  no_reason =
-      granted ∙ ap (λ (b : Bool). first_fit ((b, refusal.Void) ∷ (ltb 65536 (length rows), refusal.Rows) ∷ (ltb (length list) (length es), refusal.Threads) ∷ [])) (void_is o.void)
 
   many : length (take len rows') ≡ len
   many = length-take-le len rows' (omega arith)
@@ -60,15 +47,15 @@ module _ (o : Opening) (es : List Event) (m : Meaning) (recorded : Recorded o es
   too_many e =
       let h : Holds (pairs es o.threads m) (length rows) (viewed (take len rows')) false = subst (Holds (pairs es o.threads m) (length rows) (viewed (take len rows'))) e holds in
       let full : length rows' ≤ len = omega (arith, h.extent.0, many_viewed (take len rows'), many) in
-      subst (λ (q : Option JudgeRefusal). JudgedFor q o es m rows list (Err refusal.Pairs) rows' list) no_reason
+      subst (λ (q : Option JudgeRefusal). JudgedFor q o es m rows list (Err refusal.Pairs) rows' list) (sym granted)
       (subst (λ (xs : List SearchRow). Holds (pairs es o.threads m) (length rows) (viewed xs) false) (take_all len rows' full) h, refl)
 
   pub judged_as : complete ≡ true → (w : Verdict) (list' : List ℕ) → DecidedBy (ends m (length es)) (take len rows') list w list'
       → Judged o es m rows list (Ok (record { verdict = w; pairs = len })) rows' list'
   judged_as e w list' d =
       let h : Holds (pairs es o.threads m) (length rows) (viewed (take len rows')) true = subst (Holds (pairs es o.threads m) (length rows) (viewed (take len rows'))) e holds in
-      let enough : length es ≤ length list = ltb-false (length list) (length es) (not_last (is_some o.void) (ltb 65536 (length rows)) (ltb (length list) (length es)) granted) in
-      subst (λ (q : Option JudgeRefusal). JudgedFor q o es m rows list (Ok (record { verdict = w; pairs = len })) rows' list') no_reason (
+      let enough : length es ≤ length list = ltb-false (length list) (length es) (not_last (is_void o) (ltb 65536 (length rows)) (ltb (length list) (length es)) granted) in
+      subst (λ (q : Option JudgeRefusal). JudgedFor q o es m rows list (Ok (record { verdict = w; pairs = len })) rows' list') (sym granted) (
         record { within = within; holds = h; many = many; beyond = beyond },
         answered es o.threads m (given o es o.threads recorded) (length rows) (take len rows') true h list list' enough w d len many,
       )
@@ -85,17 +72,3 @@ module _ (t : Trace) (noted : Noted (opening_of t) (noted_of t)) where
     -- the tables that are made of its events, as they are read, are those of its list
     pub made_of : (v : Tables) → ((o : Opening) → Small o → Noted o seen → MadeOf seen v) → MadeOf (noted_of t) v
     made_of v make = subst (λ (es : List Event). MadeOf es v) is (make (opening_of t) small_of (subst (Noted (opening_of t)) (sym is) noted))
-
-    pub granted_by : (rows : List SearchRow) (list : List ℕ) (b : Bool) → b ≡ is_some (opening_of t).void
-        → None ≡ first_fit ((b, refusal.Void) ∷ (ltb 65536 (length rows), refusal.Rows) ∷ (ltb (length list) (length seen), refusal.Threads) ∷ [])
-        → None ≡ first_fit (tests (opening_of t) (noted_of t) rows list)
-    granted_by rows list b void h =
-        h
-        ∙ ap₂ (λ (b : Bool) (k : ℕ). first_fit ((b, refusal.Void) ∷ (ltb 65536 (length rows), refusal.Rows) ∷ (ltb (length list) k, refusal.Threads) ∷ [])) void (ap length is)
-
-    pub decided_by : (m : Meaning) (rows : List SearchRow) (len : ℕ) (list list' : List ℕ) (w : Verdict)
-        → DecidedBy (ends m (length seen)) (take (len - 0) rows) list w list' → DecidedBy (ends m (length (noted_of t))) (take len rows) list w list'
-    decided_by m rows len list list' w d =
-        let e : len - 0 ≡ len = omega arith in
-        subst (λ (k : ℕ). DecidedBy (ends m k) (take len rows) list w list') (ap length is)
-        (subst (λ (k : ℕ). DecidedBy (ends m (length seen)) (take k rows) list w list') e d)

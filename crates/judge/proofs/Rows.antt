@@ -1,23 +1,21 @@
 -- Rows and the pairs in them.
-use Rattle.std.specs.Prelude.{◌≡◌, ℕ, ◌+◌, ◌<◌, Bool, true, false, List, [], ◌∷◌, map, length, replicate, slice_index_or, refl}
-use Rattle.std.proofs.Common.{sym, ap, ◌∙◌, inl, inr, arith}
-use Rattle.std.proofs.lemmas.List.{get_or-map, get_or_default, length-map}
-use Rattle.std.proofs.lemmas.Bool.{cases_eq, false≢true}
-use Rattle.rows.specs.First.{NoneBelow}
+use Rattle.std.specs.Prelude.{◌≡◌, ℕ, ◌<◌, List, [], ◌∷◌, map, length, replicate, slice_index_or, refl}
+use Rattle.std.proofs.Common.{sym, ap, ◌∙◌, arith}
+use Rattle.std.proofs.lemmas.List.{get_or-map, length-map}
 use Rattle.explore.specs.Rows.{Row, row_of, At}
 use Rattle.pairs.specs.declared.pair.Pair.{Pair}
 use Rattle.judge.specs.declared.row.SearchRow.{SearchRow}
-use Rattle.judge.specs.Viewed.{pair_in, viewed}
+use Rattle.judge.specs.Viewed.{viewed}
 
 -- read only past the end of rows
 abbrev pub no_row : SearchRow
-no_row = record { cut = replicate 8 0; code = 0; from = 0; thread = 0 }
+no_row = record { pair = record { cut = replicate 8 0; code = 0 }; from = 0; thread = 0 }
 
 abbrev pub view : SearchRow → Row Pair
-view row = row_of (pair_in row) row.from row.thread
+view row = row_of row.pair row.from row.thread
 
 abbrev unview : Row Pair → SearchRow
-unview r = record { cut = r.node.cut; code = r.node.code; from = r.from; thread = r.label }
+unview r = record { pair = r.node; from = r.from; thread = r.label }
 
 -- rows are told by what they stand for
 unviewed : (xs : List SearchRow) → map unview (viewed xs) ≡ xs
@@ -35,15 +33,3 @@ at_view xs j d l = (omega (arith, many_viewed xs), sym (get_or-map view xs j d (
 
 pub is_view : (xs : List SearchRow) (j : ℕ) (s : Row Pair) → At (viewed xs) j s → s ≡ view (slice_index_or xs j no_row)
 is_view xs j s at = at.1 ∙ get_or-map view xs j no_row s (omega (arith, at.0, many_viewed xs))
-
--- a test of the row at place i, whatever is read past the end
-module _ (test : SearchRow → Bool) (xs : List SearchRow) (i : ℕ) (x : SearchRow) (l : i < length xs) where
-  pub passes : true ≡ test (slice_index_or xs i x) → (d : SearchRow) → test (slice_index_or xs i d) ≡ true
-  passes h d = sym (h ∙ ap test (get_or_default xs i x d l))
-
-  pub none_more : false ≡ test (slice_index_or xs i x) → NoneBelow test true xs i → NoneBelow test true xs (i + 1)
-  none_more miss none k d below h =
-      elim (cases_eq k i) [
-        | inl e ↦ false≢true (miss ∙ ap test (get_or_default xs i x d l) ∙ ap (λ z. test (slice_index_or xs z d)) (sym e) ∙ h)
-        | inr n ↦ none k d (omega arith) h
-      ]

@@ -11,7 +11,7 @@ use Rattle.judge.specs.declared.verdict.Verdict.TheVariants as verdict
 
 -- n events are in the row's cut, and its code is bad
 abbrev pub ends : Meaning → ℕ → SearchRow → Bool
-ends m n row = m.bad row.code && size_of row.cut == n
+ends m n row = m.bad row.pair.code && size_of row.pair.cut == n
 
 -- the threads that led to row i
 abbrev pub threads_to : List SearchRow → ℕ → List ℕ

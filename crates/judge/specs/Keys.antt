@@ -7,12 +7,12 @@ use Rattle.pairs.specs.declared.pair.Pair.{Pair}
 use Rattle.pairs.specs.Pairs.{same}
 use Rattle.pairs.proofs.Levels.{told}
 use Rattle.judge.specs.declared.row.SearchRow.{SearchRow}
-use Rattle.judge.specs.Viewed.{pair_in, is_pair}
+use Rattle.judge.specs.Viewed.{is_pair}
 
 pub decides_counts : (xs ys : List ℕ) → Decides (same_counts xs ys) (xs ≡ ys)
 decides_counts =
     compares_Decides same_counts
     record { empty = refl; shorter = λ y ys. refl; longer = λ x xs. refl; heads = λ x y xs ys. refl }
 
-pub decides_pair : (x : Pair) (row : SearchRow) → Decides (is_pair x row) (pair_in row ≡ x)
-decides_pair x row = (told.equal (pair_in row) x, λ e. subst (λ (z : Pair). same (pair_in row) z ≡ true) e (told.self (pair_in row)))
+pub decides_pair : (x : Pair) (row : SearchRow) → Decides (is_pair x row) (row.pair ≡ x)
+decides_pair x row = (told.equal row.pair x, λ e. subst (λ (z : Pair). same row.pair z ≡ true) e (told.self row.pair))

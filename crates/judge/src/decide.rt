@@ -13,33 +13,21 @@ use monitor::Monitor;
 fn size(cut: [u8; 8]) -> usize
     ensures { result ≡ size_of cut }
 {
-    let mut sum = 0;
-    for t in 0..8 {
-        sum += cut[t] as usize;
-    }
-    sum
+    cut.iter().map(|count| usize::from(*count)).sum()
 }
 
 // Whether all of so many events are in the row's cut, and its code is bad.
-fn ends_badly<M: Monitor>(row: SearchRow, monitor: &M, events: usize) -> bool
-    ensures { result ≡ ends (M.Monitor.meaning monitor.now) events row }
+fn ends_badly<M: Monitor>(row: &SearchRow, monitor: &M, events: usize) -> bool
+    ensures { result ≡ ends (M.Monitor.meaning monitor.now) events row.now }
 {
-    if !monitor.bad(row.code) {
-        return false;
-    }
-    size(row.cut) == events
+    monitor.bad(row.pair.code) && size(row.pair.cut) == events
 }
 
 // The first row that ends badly.
 fn first_bad<M: Monitor>(rows: &[SearchRow], monitor: &M, events: usize) -> Option<usize>
     ensures { StandsFirst (ends (M.Monitor.meaning monitor.now) events) true rows.now result }
 {
-    for (i, row) in rows.iter().enumerate() {
-        if ends_badly(*row, monitor, events) {
-            return Some(i);
-        }
-    }
-    None
+    rows.iter().position(|row| ends_badly(row, monitor, events))
 }
 
 // The verdict on the rows. Where a row ends badly, the path to the first such row is written into

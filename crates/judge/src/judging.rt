@@ -1,9 +1,8 @@
 // The call that judges.
-ghost use Rattle.std.specs.Prelude.{◌≡◌, [], ◌∷◌, nat_lt};
+ghost use Rattle.std.specs.Prelude.{◌≡◌, None, Some, IfOk, IfErr};
 ghost use Rattle.events.specs.First.{first_fit};
 ghost use Rattle.trace.specs.Meaning.{opening_of, noted_of};
-ghost use Rattle.judge.specs.declared.refusal.JudgeRefusal.TheVariants.{Void, Rows, Threads};
-ghost use Rattle.judge.specs.Judging.{Judged};
+ghost use Rattle.judge.specs.Judging.{judge_tests, Judged};
 ghost use Rattle.judge.specs.Said.{SaysNone, SaysFound};
 
 use crate::decide::decide;
@@ -16,20 +15,21 @@ use follow::Tables;
 use monitor::Monitor;
 use trace::Trace;
 
-// Why nothing is judged, if so.
-fn refused(void: bool, rows: usize, threads: usize, events: usize) -> Option<JudgeRefusal>
-    ensures { result ≡ first_fit ((void, Void) ∷ (nat_lt 65536 rows, Rows) ∷ (nat_lt threads events, Threads) ∷ []) }
+// Whether a trace is judged with so many rows and a thread list of this length, or why not.
+fn granted(trace: &Trace, rows: usize, threads: usize) -> Result<(), JudgeRefusal>
+    ensures none { IfOk result (λ _. first_fit (judge_tests (opening_of trace.now) (noted_of trace.now) rows threads) ≡ None) }
+    ensures why { IfErr result (λ why. first_fit (judge_tests (opening_of trace.now) (noted_of trace.now) rows threads) ≡ Some why) }
 {
-    if void {
-        return Some(JudgeRefusal::Void);
+    if trace.void().is_some() {
+        return Err(JudgeRefusal::Void);
     }
     if rows > 65536 {
-        return Some(JudgeRefusal::Rows);
+        return Err(JudgeRefusal::Rows);
     }
-    if threads < events {
-        return Some(JudgeRefusal::Threads);
+    if threads < trace.events().len() {
+        return Err(JudgeRefusal::Threads);
     }
-    None
+    Ok(())
 }
 
 // Judges a trace under a monitor: whether some consistent run violates. The rows take the pairs that
@@ -45,15 +45,8 @@ pub fn judge<M: Monitor>(
     ensures none { SaysNone (noted_of trace.now) (M.Monitor.meaning monitor.now) result }
     ensures found { SaysFound (noted_of trace.now) (M.Monitor.meaning monitor.now) result threads.new }
 {
+    granted(trace, rows.len(), threads.len())?;
     let events = trace.events();
-    if let Some(why) = refused(
-        trace.void().is_some(),
-        rows.len(),
-        threads.len(),
-        events.len(),
-    ) {
-        return Err(why);
-    }
     let tables = Tables::make(events);
     let machine = PairMachine {
         tables: &tables,
@@ -65,6 +58,6 @@ pub fn judge<M: Monitor>(
         return Err(JudgeRefusal::Pairs);
     }
     let pairs = explored.len;
-    let verdict = decide(&rows[0..pairs], monitor, events.len(), threads);
+    let verdict = decide(&rows[..pairs], monitor, events.len(), threads);
     Ok(Judgement { verdict, pairs })
 }

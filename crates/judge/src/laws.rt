@@ -4,5 +4,4 @@ ghost use Rattle.judge.specs.Laws.{JudgedOnce};
 // What judging answers and leaves is fixed by the trace, the monitor and what was lent.
 pub fn judged_once()
     ensures { JudgedOnce }
-{
-}
+{}

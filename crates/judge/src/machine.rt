@@ -2,7 +2,7 @@
 ghost use Rattle.judge.specs.Tabled.{tabled};
 
 use explore::Machine;
-use follow::{Follow, Tables};
+use follow::Tables;
 use monitor::Monitor;
 use pairs::Pair;
 
@@ -30,14 +30,10 @@ impl<'a, M: Monitor> Machine<Pair> for PairMachine<'a, M> {
     }
 
     fn next(&self, node: Pair, label: u8) -> Option<Pair> {
-        match self.tables.next(node.cut, label) {
-            Follow::Next(event) => {
-                let mut cut = node.cut;
-                cut[label as usize] += 1;
-                let code = self.monitor.step(node.code, event.action());
-                Some(Pair { cut, code })
-            }
-            Follow::Done | Follow::Missing | Follow::Blocked => None,
-        }
+        let event = self.tables.next(node.cut, label).ok()?;
+        let mut cut = node.cut;
+        cut[label as usize] += 1;
+        let code = self.monitor.step(node.code, event.action());
+        Some(Pair { cut, code })
     }
 }

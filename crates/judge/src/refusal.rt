@@ -5,24 +5,19 @@ ghost use Rattle.judge.specs.Numbers.{judge_number};
 #[derive(Clone, Copy, Debug, PartialEq, Eq)]
 pub enum JudgeRefusal {
     // the trace is void
-    Void,
+    Void = 9,
     // more than 65,536 rows are lent
-    Rows,
+    Rows = 20,
     // the thread list is shorter than the list of events
-    Threads,
+    Threads = 21,
     // there are more pairs than rows
-    Pairs,
+    Pairs = 22,
 }
 
 impl JudgeRefusal {
     pub fn number(self) -> u8
         ensures { result ≡ judge_number self }
     {
-        match self {
-            JudgeRefusal::Void => 9,
-            JudgeRefusal::Rows => 20,
-            JudgeRefusal::Threads => 21,
-            JudgeRefusal::Pairs => 22,
-        }
+        self as u8
     }
 }

@@ -1,5 +1,5 @@
 // Rows in which pairs are listed.
-ghost use Rattle.judge.specs.Viewed.{pair_in, is_pair};
+ghost use Rattle.judge.specs.Viewed.{is_pair};
 ghost use Rattle.judge.specs.Keys.{decides_pair};
 
 use explore::{Entry, Traced};
@@ -10,8 +10,7 @@ use rows::Keyed;
 // from there. Row 0, which nothing led to, has 0 and 255.
 #[derive(Clone, Copy, Debug)]
 pub struct SearchRow {
-    pub cut: [u8; 8],
-    pub code: u64,
+    pub pair: Pair,
     pub from: usize,
     pub thread: u8,
 }
@@ -19,25 +18,24 @@ pub struct SearchRow {
 impl SearchRow {
     // A row that stands for no pair, with which tables are made.
     pub const BLANK: SearchRow = SearchRow {
-        cut: [0; 8],
-        code: 0,
+        pair: Pair {
+            cut: [0; 8],
+            code: 0,
+        },
         from: 0,
         thread: 0,
     };
 }
 
 impl Keyed<Pair> for SearchRow {
-    ghost keyed = { pair_in };
+    ghost keyed = { λ row. row.pair };
 
     ghost has = { is_pair };
 
     ghost decides = { decides_pair };
 
     fn matches(&self, key: Pair) -> bool {
-        if self.code != key.code {
-            return false;
-        }
-        self.cut == key.cut
+        self.pair == key
     }
 }
 
@@ -56,20 +54,11 @@ impl Traced for SearchRow {
 }
 
 impl Entry<Pair> for SearchRow {
-    fn new(node: Pair, from: usize, label: u8) -> SearchRow {
-        let cut = node.cut;
-        SearchRow {
-            cut,
-            code: node.code,
-            from,
-            thread: label,
-        }
+    fn new(pair: Pair, from: usize, thread: u8) -> SearchRow {
+        SearchRow { pair, from, thread }
     }
 
     fn node(&self) -> Pair {
-        Pair {
-            cut: self.cut,
-            code: self.code,
-        }
+        self.pair
     }
 }

@@ -1,5 +1,6 @@
 // What a trace is judged to be.
 
+// Stays an enum of its own: users read it by these words, none or found.
 #[derive(Clone, Copy, Debug, PartialEq, Eq)]
 pub enum Verdict {
     // no consistent run violates

@@ -1,10 +1,13 @@
-use Rattle.std.proofs.Common.{◌≡◌, ◌+◌, get_or, ap, add-one, arith}
-use Rattle.order.specs.Reached.{cut_of}
-use Rattle.pairs.specs.Pairs.{total}
+use Rattle.std.proofs.Common.{◌≡◌, sum, ◌∙◌, rules, arith}
+use Rattle.std.proofs.iter.runs.Sources.{sums}
+use Rattle.judge.proofs.Deciding.{size_is}
 use Rattle.judge.proofs.decide.size.Goals as goal
 
-pub loop-t-preserved : goal.loop-t-preserved
-loop-t-preserved c =
-    let e : total (cut_of c.args.cut) (c.loop-t.t + 1) ≡ get_or c.args.cut c.loop-t.t 0 + total (cut_of c.args.cut) c.loop-t.t
-    = ap (total (cut_of c.args.cut)) (add-one c.loop-t.t) in
-    (omega (arith, c.loop-t.invariant.0), omega arith)
+-- eight counts of at most 255
+pub sum-requires-clause-fits : goal.sum-requires-clause-fits
+sum-requires-clause-fits c = search (rules, sums)
+
+pub returns : goal.returns
+returns c =
+    let e : c.sum.result ≡ sum c.args.cut = search (rules, sums) in
+    e ∙ size_is c.args.cut (omega (arith, c.well_formed))
