@@ -1,15 +1,16 @@
 -- Numbers where they stand in a text.
-use Rattle.std.proofs.Common.{◌≡◌, ℕ, suc, ◌+◌, ◌-◌, ◌^◌, ◌<◌, ◌≤◌, true, false, cond, eqb, List, [], ◌∷◌, ◌++◌, length, get_or, take, drop, ℤ, pos, negsuc, decimal, sym, refl, ap, ◌∙◌, ⊎_elim, arith, length-append, length-drop}
+use Rattle.std.proofs.Common.{◌≡◌, ℕ, suc, ◌+◌, ◌^◌, ◌<◌, true, false, cond, List, [], ◌∷◌, ◌++◌, length, take, drop, ℤ, pos, negsuc, decimal, sym, refl, ap, ◌∙◌, arith}
 use Rattle.std.specs.Str.Parse.{AllDigits}
 use Rattle.std.specs.Int.{IsInRange}
 use Rattle.std.specs.Fmt.{signed_decimal}
 use Rattle.std.proofs.lemmas.Fmt.{decimal_is_IsNumeral}
-use Rattle.std.proofs.lemmas.List.{at_drop_more, at_drop_all, drop_at, drop-drop, take_at}
+use Rattle.std.proofs.lemmas.List.{drop_at, drop-drop, take_at}
 use Rattle.std.proofs.lemmas.Str.Parse.{digit_from_value}
-use Rattle.std.proofs.lemmas.Bool.{false≢true, and_from, cases_lt}
+use Rattle.std.proofs.lemmas.Bool.{and_from}
 use Rattle.std.proofs.lemmas.Bool.Decides.{nat_tests}
-use Rattle.grammar.specs.Recording.{TenDigits}
-use Rattle.formula.specs.Reading.{digit, begins_digit, begins_minus, digits, number_width}
+use Rattle.grammar.specs.Recording.{Piece, opening, closing, blank, newline, word, small, wide, TenDigits, bytes}
+use Rattle.text.specs.Ranges.{Short}
+use Rattle.formula.specs.Reading.{IsNumber, digit, begins_digit, begins_minus, digits, number_width}
 use Rattle.formula.proofs.Bytes.{all_digit, digits-run}
 
 in_digit : (c : ℕ) → IsInRange 48 57 c → digit c ≡ true
@@ -43,40 +44,22 @@ wide_width (pos n) rest h stop =
     plain_width (decimal n ++ rest) (no_minus (decimal n) rest (decimal_length n (omega arith)) (decimal-digits n (omega arith))) ∙ small_width n rest h stop
 wide_width (negsuc n) rest h stop = ap suc (digits-run (decimal (suc n)) rest (decimal-digits (suc n) (omega arith)) stop)
 
--- a part of the text that begins at k
-module _ (t : List ℕ) (k : ℕ) (part rest : List ℕ) (e : drop k t ≡ part ++ rest) where
-  pub part_within : 0 < length part → k + length part ≤ length t
-  part_within some = omega (arith, ap length e, length-drop k t, length-append part rest)
+-- what stands behind a part of the text that begins at k
+pub part_passed : (t : List ℕ) (k : ℕ) (part rest : List ℕ) → drop k t ≡ part ++ rest → drop (k + length part) t ≡ rest
+part_passed t k part rest e = sym (drop-drop (length part) k t) ∙ ap (drop (length part)) e ∙ drop_at part rest (length part) refl
 
-  pub part_taken : take (k + length part - k) (drop k t) ≡ part
-  part_taken =
-      let same : k + length part - k ≡ length part = omega arith in
-      ap (λ n. take n (drop k t)) same ∙ ap (take (length part)) e ∙ take_at part rest (length part) refl
+-- the bytes of the number where it stands
+wide_part : (t : List ℕ) (k : ℕ) (z : ℤ) (rest : List ℕ) → TenDigits z → begins_digit rest ≡ false → drop k t ≡ signed_decimal z ++ rest
+    → take (number_width (drop k t)) (drop k t) ≡ signed_decimal z
+wide_part t k z rest h stop e =
+    ap (λ bs. take (number_width bs) bs) e ∙ ap (λ w. take w (signed_decimal z ++ rest)) (wide_width z rest h stop) ∙ take_at (signed_decimal z) rest (length (signed_decimal z)) refl
 
-  pub part_passed : drop (k + length part) t ≡ rest
-  part_passed = sym (drop-drop (length part) k t) ∙ ap (drop (length part)) e ∙ drop_at part rest (length part) refl
-
--- a minus in the text
-pub minus_here : (t : List ℕ) (k : ℕ) → k < length t → begins_minus (drop k t) ≡ eqb (get_or t k 0) 45
-minus_here t k h = at_drop_more begins_minus t k 0 h
-
-pub minus_none : (t : List ℕ) (k : ℕ) → length t ≤ k → begins_minus (drop k t) ≡ false
-minus_none t k h = at_drop_all begins_minus t k h
-
-pub minus_within : (t : List ℕ) (k : ℕ) → begins_minus (drop k t) ≡ true → k < length t
-minus_within t k m = ⊎_elim (λ h. h) (λ h. absurd (false≢true (sym (minus_none t k h) ∙ m))) (cases_lt k (length t))
-
-pub minus_width : (t : List ℕ) (k : ℕ) → begins_minus (drop k t) ≡ true → number_width (drop k t) ≡ suc (digits (drop (k + 1) t))
-minus_width t k m = ap (λ b. cond b (suc (digits (drop 1 (drop k t)))) (digits (drop k t))) m ∙ ap (λ bs. suc (digits bs)) (drop-drop 1 k t)
-
-pub other_width : (t : List ℕ) (k : ℕ) → begins_minus (drop k t) ≡ false → number_width (drop k t) ≡ digits (drop k t)
-other_width t k m = plain_width (drop k t) m
-
-pub signed_length : (z : ℤ) → TenDigits z → 0 < length (signed_decimal z)
-signed_length (pos n) h = decimal_length n (omega arith)
-signed_length (negsuc n) h = omega arith
-
--- the part that a number of the width w takes, from k to the end that was found
-module _ (t : List ℕ) (k end : ℕ) (part rest : List ℕ) (e : drop k t ≡ part ++ rest) (w : end ≡ k + length part) where
-  pub to_end : take (end - k) (drop k t) ≡ part
-  to_end = ap (λ n. take (n - k) (drop k t)) w ∙ part_taken t k part rest e
+pub number_part : (t : List ℕ) (k : ℕ) (p : Piece) (rest : List ℕ) → IsNumber p → Short p → begins_digit rest ≡ false → drop k t ≡ bytes p ++ rest
+    → take (number_width (drop k t)) (drop k t) ≡ bytes p
+number_part t k opening rest i h stop e = absurd i
+number_part t k closing rest i h stop e = absurd i
+number_part t k blank rest i h stop e = absurd i
+number_part t k newline rest i h stop e = absurd i
+number_part t k (word w) rest i h stop e = absurd i
+number_part t k (small n) rest i h stop e = wide_part t k (pos n) rest h stop e
+number_part t k (wide z) rest i h stop e = wide_part t k z rest h stop e

@@ -3,11 +3,11 @@ use Rattle.std.proofs.Common.{◌≡◌, ℕ, ◌+◌, List, ◌∷◌, ◌++◌
 use Rattle.std.specs.Fmt.{signed_decimal}
 use Rattle.std.proofs.lemmas.List.{drop-drop, get_or-drop}
 use Rattle.grammar.specs.Recording.{Formula, eq, lt, gt, mark, by, neg, before, once, always, and, or, implies, since}
-use Rattle.grammar.specs.Recording.{Piece, flat, formula}
+use Rattle.grammar.specs.Recording.{Piece, small, flat, formula}
 use Rattle.text.specs.declared.fault.TextFault.{TextFault}
 use Rattle.formula.specs.declared.word.Word.{Word}
 use Rattle.formula.specs.declared.word.Word.TheVariants.{Eq as EqW, Lt as LtW, Gt as GtW, Mark as MarkW, By as ByW, Not as NotW, And as AndW, Or as OrW, Implies as ImpliesW, Before as BeforeW, Once as OnceW, Always as AlwaysW, Since as SinceW}
-use Rattle.formula.specs.Reading.{operator, Ten, filled_one, filled_two, pair_at, head_at, ReadsSmall, ReadsPair}
+use Rattle.formula.specs.Reading.{operator, Ten, filled_one, filled_two, pair_at, head_at, ReadsNumber, ReadsPair}
 
 -- which words have which numbers
 abbrev pub Compares : Word → Type 0
@@ -71,29 +71,6 @@ read OrW p n = Ok OrW
 read ImpliesW p n = Ok ImpliesW
 read SinceW p n = Ok SinceW
 
--- a word with no number
-pub record Bare (w : Word) : Type 0 where
-  pub same : (p : Result (ℕ × ℤ) TextFault) (n : Result ℕ TextFault) → Ok w ≡ read w p n
-  pub compares : Compares w → ⊥
-  pub marks : Marks w → ⊥
-  pub bys : Bys w → ⊥
-
-pub bare : (w : Word) → ((x : ℕ) (c : ℤ) → w ≡ EqW x c → ⊥) → ((x : ℕ) (c : ℤ) → w ≡ LtW x c → ⊥) → ((x : ℕ) (c : ℤ) → w ≡ GtW x c → ⊥)
-    → ((k : ℕ) → w ≡ MarkW k → ⊥) → ((k : ℕ) → w ≡ ByW k → ⊥) → Bare w
-bare (EqW x c) eq' lt' gt' mark' by' = absurd (eq' x c refl)
-bare (LtW x c) eq' lt' gt' mark' by' = absurd (lt' x c refl)
-bare (GtW x c) eq' lt' gt' mark' by' = absurd (gt' x c refl)
-bare (MarkW k) eq' lt' gt' mark' by' = absurd (mark' k refl)
-bare (ByW k) eq' lt' gt' mark' by' = absurd (by' k refl)
-bare NotW eq' lt' gt' mark' by' = record { same = λ p n. refl; compares = λ h. h; marks = λ h. h; bys = λ h. h }
-bare BeforeW eq' lt' gt' mark' by' = record { same = λ p n. refl; compares = λ h. h; marks = λ h. h; bys = λ h. h }
-bare OnceW eq' lt' gt' mark' by' = record { same = λ p n. refl; compares = λ h. h; marks = λ h. h; bys = λ h. h }
-bare AlwaysW eq' lt' gt' mark' by' = record { same = λ p n. refl; compares = λ h. h; marks = λ h. h; bys = λ h. h }
-bare AndW eq' lt' gt' mark' by' = record { same = λ p n. refl; compares = λ h. h; marks = λ h. h; bys = λ h. h }
-bare OrW eq' lt' gt' mark' by' = record { same = λ p n. refl; compares = λ h. h; marks = λ h. h; bys = λ h. h }
-bare ImpliesW eq' lt' gt' mark' by' = record { same = λ p n. refl; compares = λ h. h; marks = λ h. h; bys = λ h. h }
-bare SinceW eq' lt' gt' mark' by' = record { same = λ p n. refl; compares = λ h. h; marks = λ h. h; bys = λ h. h }
-
 module _ (t : List ℕ) (k : ℕ) where
   -- a formula's first letters
   letters : (a b : ℕ) (rest : List ℕ) → drop k t ≡ 40 ∷ a ∷ b ∷ rest → operator (get_or t (k + 1) 0) (get_or t (k + 2) 0) ≡ operator a b
@@ -106,7 +83,7 @@ module _ (t : List ℕ) (k : ℕ) where
   behind n bs rest e f = sym (drop-drop n k t) ∙ ap (drop n) e ∙ f
 
   module _ (w : Word) (begun : w ≡ operator (get_or t (k + 1) 0) (get_or t (k + 2) 0)) (p : Result (ℕ × ℤ) TextFault) (n : Result ℕ TextFault)
-      (pair : Compares w → ReadsPair t (k + 4) p) (label : Marks w → ReadsSmall t (k + 6) n) (thread : Bys w → ReadsSmall t (k + 4) n) where
+      (pair : Compares w → ReadsPair t (k + 4) p) (label : Marks w → ReadsNumber small t (k + 6) n) (thread : Bys w → ReadsNumber small t (k + 4) n) where
     plain : (v : Word) (a b : ℕ) (rest : List ℕ) → operator a b ≡ v → drop k t ≡ 40 ∷ a ∷ b ∷ rest → read w p n ≡ read v p n
     plain v a b rest o e = ap (λ u. read u p n) (begun ∙ letters a b rest e ∙ o)
 
@@ -125,10 +102,10 @@ module _ (t : List ℕ) (k : ℕ) where
         plain (GtW 0 (pos 0)) 103 116 _ refl e ∙ ap (filled_two (GtW 0 (pos 0))) (compare (GtW 0 (pos 0)) 103 116 x c (flat more) refl tt ten e)
     head_read (mark m) more ten e =
         let is : MarkW 0 ≡ w = sym (begun ∙ letters 109 97 _ e) in
-        plain (MarkW 0) 109 97 _ refl e ∙ ap (filled_one (MarkW 0)) (label (subst Marks is tt) m (41 ∷ flat more) ten refl (behind 6 _ _ e refl))
+        plain (MarkW 0) 109 97 _ refl e ∙ ap (filled_one (MarkW 0)) (label (subst Marks is tt) m (41 ∷ flat more) tt ten refl (behind 6 _ _ e refl))
     head_read (by m) more ten e =
         let is : ByW 0 ≡ w = sym (begun ∙ letters 98 121 _ e) in
-        plain (ByW 0) 98 121 _ refl e ∙ ap (filled_one (ByW 0)) (thread (subst Bys is tt) m (41 ∷ flat more) ten refl (behind 4 _ _ e refl))
+        plain (ByW 0) 98 121 _ refl e ∙ ap (filled_one (ByW 0)) (thread (subst Bys is tt) m (41 ∷ flat more) tt ten refl (behind 4 _ _ e refl))
     head_read (neg f) more ten e = plain NotW 110 111 _ refl e
     head_read (before f) more ten e = plain BeforeW 98 101 _ refl e
     head_read (once f) more ten e = plain OnceW 111 110 _ refl e

@@ -69,8 +69,3 @@ WatchesText starts t (Err fault) = Unit {0}
 abbrev pub ReadsText : List ℕ → Result (List Word) TextFault → Type 0
 ReadsText t (Ok ws) = (length t ≤ 60000) × LegalRule t × ((f : Formula) → Nests 15 f → t ≡ flat (formula f []) → Spelt f ws)
 ReadsText t (Err fault) = TextFaulty t fault
-
--- what a check of the text's shape comes to
-abbrev pub LegalText : List ℕ → Result (Unit {0}) TextFault → Type 0
-LegalText t (Ok u) = (length t ≤ 60000) × LegalRule t
-LegalText t (Err fault) = TextFaulty t fault

@@ -1,5 +1,5 @@
 -- What a formula means as a monitor. That bad codes stay bad is a part of a meaning, so its proof stands here.
-use Rattle.std.specs.Prelude.{◌≡◌, ℕ, ◌≤◌, true, false, List, take, ℤ, nat_lt}
+use Rattle.std.specs.Prelude.{◌≡◌, ℕ, ◌≤◌, true, false, List, ℤ, nat_lt}
 use Rattle.std.proofs.Common.{◌∙◌, arith}
 use Rattle.std.proofs.lemmas.Bool.{le-ltb}
 use Rattle.codes.specs.Codes.{bit_of}
@@ -16,9 +16,9 @@ bad_stays nodes n c a few b =
     let above : nat_lt 61 n ≡ false = le-ltb 61 n (omega arith) in
     bit_code 62 (bits n c (eval n nodes (bit_of c) a)) 61 (omega arith) ∙ rw (above, b)
 
--- the starting values of the variables that there are
+-- the starting values of the variables
 abbrev pub starts_of : Compiled → List ℤ
-starts_of t = take t.variables t.starts
+starts_of t = t.starts
 
 -- bit 61 marks the bad codes
 abbrev pub meant : Compiled → Meaning

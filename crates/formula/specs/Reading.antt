@@ -2,10 +2,10 @@
 use Rattle.std.specs.Prelude.{◌≡◌, ℕ, suc, ◌+◌, ◌^◌, ◌<◌, Bool, false, cond, ◌&&◌, List, [], ◌∷◌, ◌++◌, length, drop, ℤ, pos, Ok, Err, decimal, Result, ◌==◌, nat_le, slice_index}
 use Rattle.std.specs.Fmt.{signed_decimal}
 use Rattle.grammar.specs.Recording.{Formula, eq, lt, gt, mark, by, neg, before, once, always, and, or, implies, since}
-use Rattle.grammar.specs.Recording.{Piece, TenDigits, flat, formula}
+use Rattle.grammar.specs.Recording.{Piece, opening, closing, blank, newline, word, small, wide, TenDigits, bytes, flat, formula}
 use Rattle.text.specs.declared.fault.TextFault.{TextFault}
 use Rattle.text.specs.Places.{byte_place}
-use Rattle.text.specs.Ranges.{small_number, wide_number}
+use Rattle.text.specs.Ranges.{Short, fitting, small_number, wide_number}
 use Rattle.formula.specs.declared.word.Word.{Word}
 use Rattle.formula.specs.declared.word.Word.TheVariants.{Eq as EqW, Lt as LtW, Gt as GtW, Mark as MarkW, By as ByW, Not as NotW, And as AndW, Or as OrW, Implies as ImpliesW, Before as BeforeW, Once as OnceW, Always as AlwaysW, Since as SinceW}
 
@@ -40,12 +40,20 @@ begins_minus (b ∷ bs) = b == 45
 abbrev pub number_width : List ℕ → ℕ
 number_width bs = cond (begins_minus bs) (suc (digits (drop 1 bs))) (digits bs)
 
--- the number at k, where bytes that no number goes on with stand behind it: small, and wide
-abbrev pub ReadsSmall : List ℕ → ℕ → Result ℕ TextFault → Type 0
-ReadsSmall t k r = (n : ℕ) (rest : List ℕ) → n < 10 ^ 10 → begins_digit rest ≡ false → drop k t ≡ decimal n ++ rest → r ≡ small_number n (byte_place t k)
+-- a piece that is a number
+abbrev pub IsNumber : Piece → Type 0
+IsNumber opening = ⊥
+IsNumber closing = ⊥
+IsNumber blank = ⊥
+IsNumber newline = ⊥
+IsNumber (word w) = ⊥
+IsNumber (small n) = Unit {0}
+IsNumber (wide z) = Unit {0}
 
-abbrev pub ReadsWide : List ℕ → ℕ → Result ℤ TextFault → Type 0
-ReadsWide t k r = (z : ℤ) (rest : List ℕ) → TenDigits z → begins_digit rest ≡ false → drop k t ≡ signed_decimal z ++ rest → r ≡ wide_number z (byte_place t k)
+-- the number at k, where bytes that no number goes on with stand behind it, and its piece is as told
+abbrev pub ReadsNumber : {A : Type 0} → (A → Piece) → List ℕ → ℕ → Result A TextFault → Type 0
+ReadsNumber {A} spelling t k r =
+    (n : A) (rest : List ℕ) → IsNumber (spelling n) → Short (spelling n) → begins_digit rest ≡ false → drop k t ≡ bytes (spelling n) ++ rest → r ≡ fitting (spelling n) n (byte_place t k)
 
 -- a formula's word
 abbrev pub word_of : Formula → Word

@@ -1,14 +1,13 @@
 // Codes of a formula: one pass over the table makes the code after an event.
-ghost use Rattle.std.specs.Prelude.{◌≡◌, ℕ};
+ghost use Rattle.std.specs.Prelude.{◌≡◌, ℕ, pos, slice_index_or};
 ghost use Rattle.codes.specs.Codes.{bit_of};
 ghost use Rattle.formula.specs.Meant.{starts_of};
 ghost use Rattle.formula.specs.Step.{met, truth, initial, started, stepped, writes, Turn};
-ghost use Rattle.formula.specs.Table.{Inside};
 
 use crate::formula::Formula;
 use crate::node::Node;
 use codes::{has, only};
-use events::Action;
+use events::{Action, Starts};
 
 // The bits of a code beside those of the subformulas: whether there was an event yet, and whether the
 // formula was false after one.
@@ -60,13 +59,19 @@ fn holds(node: Node, i: u8, code: u64, next: u64, action: Action) -> bool
     }
 }
 
+// The starting value of a variable, or 0 if there is no such variable.
+fn start_of(starts: &Starts, variable: u8) -> i32
+    ensures { result ≡ slice_index_or starts.now variable (pos 0) }
+{
+    starts.at(variable).unwrap_or(0)
+}
+
 // Whether a subformula is a comparison that the starting values meet.
-fn begins(node: Node, starts: &[i32; 32]) -> bool
-    requires { Inside 32 60 0 node }
+fn begins(node: Node, starts: &Starts) -> bool
     ensures { result ≡ initial starts.now node }
 {
     match node {
-        Node::Eq(x, _) | Node::Lt(x, _) | Node::Gt(x, _) => meets(node, starts[x as usize]),
+        Node::Eq(x, _) | Node::Lt(x, _) | Node::Gt(x, _) => meets(node, start_of(starts, x)),
         _ => false,
     }
 }

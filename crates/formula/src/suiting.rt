@@ -9,11 +9,11 @@ use crate::spelling::Spelling;
 use crate::word::Word;
 use text::{Place, place_at};
 
-fn is_suited(word: Word, variables: u8) -> bool
+fn is_suited(word: Word, variables: usize) -> bool
     ensures { result ≡ suits variables word }
 {
     match word {
-        Word::Eq(x, _) | Word::Lt(x, _) | Word::Gt(x, _) => x < variables,
+        Word::Eq(x, _) | Word::Lt(x, _) | Word::Gt(x, _) => usize::from(x) < variables,
         Word::Mark(k) => k < 32,
         Word::By(t) => t < 8,
         _ => true,
@@ -44,7 +44,7 @@ fn bracket(text: &[u8], ahead: usize) -> usize
 }
 
 // Whether a formula has at most 60 subformulas, and each of them suits.
-pub(crate) fn check(spelling: &Spelling, text: &[u8], variables: u8) -> Result<(), RuleFault>
+pub(crate) fn check(spelling: &Spelling, text: &[u8], variables: usize) -> Result<(), RuleFault>
     ensures { FaultBy spelling.now variables text.now result }
 {
     let words = spelling.as_slice();

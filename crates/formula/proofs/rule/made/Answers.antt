@@ -1,6 +1,8 @@
-use Rattle.std.proofs.Common.{length, Err, sym, ap, ◌∙◌, subst, arith}
+use Rattle.std.proofs.Common.{Err, refl, sym, ap, ◌∙◌, subst}
 use Rattle.std.proofs.lemmas.Result.{err_from_is_err_and}
 use Rattle.formula.specs.Making.{MadeFrom, WatchesText}
+use Rattle.formula.specs.Suiting.{Suited}
+use Rattle.formula.specs.Table.{Sound}
 use Rattle.formula.specs.Words.{CompiledTo}
 use Rattle.formula.proofs.Made.{is_some, tabled}
 use Rattle.formula.proofs.Rows.{sound_from}
@@ -12,33 +14,30 @@ pub returns-in_err-spelling : goal.returns-in_err-spelling
 returns-in_err-spelling c =
     let p = err_from_is_err_and c.from_residual.result c.from_residual.ensures.1 in
     record {
-      made = subst (λ r. MadeFrom c.args.starts.now c.args.text.now r) (sym (p.1 ∙ ap Err p.2)) c.in_err-spelling.ensures;
-      watches = subst (λ r. WatchesText c.args.starts.now c.args.text.now r) (sym (p.1 ∙ ap Err p.2)) tt;
+      made = subst (λ r. MadeFrom c.args.starts c.args.text.now r) (sym (p.1 ∙ ap Err p.2)) c.in_err-spelling.ensures;
+      watches = subst (λ r. WatchesText c.args.starts c.args.text.now r) (sym (p.1 ∙ ap Err p.2)) tt;
     }
 
 pub unwrap-table-requires : goal.unwrap-table-requires
 unwrap-table-requires c =
-    is_some c.args.text.now (length c.args.starts.now) c.in_ok-spelling.spelling c.in_ok-spelling.ensures.1 c.in_ok-spelling.ensures.2 c.in_ok-check.ensures c.compile.result (subst (λ ws. CompiledTo ws c.compile.result) c.as_slice.ensures.words c.compile.ensures.table)
+    is_some c.args.text.now c.count.result c.in_ok-spelling.spelling c.in_ok-spelling.ensures.1 c.in_ok-spelling.ensures.2 c.in_ok-check.ensures c.compile.result (subst (λ ws. CompiledTo ws c.compile.result) c.as_slice.ensures.words c.compile.ensures.table)
 
 pub invariant_of-result : goal.invariant_of-result
 invariant_of-result c =
     let t = c.args.text.now in
-    let v = length c.args.starts.now in
+    let v = c.count.result in
     let read = c.in_ok-spelling.ensures in
     let legal = read.1 in
     let sp = read.2 legal.0 legal.1 legal.2 in
     let told = c.in_ok-check.ensures legal.0 sp in
     let x = c.unwrap-table.result in
     let tab = tabled t v c.in_ok-spelling.spelling legal read.2 c.in_ok-check.ensures c.compile.result (subst (λ ws. CompiledTo ws c.compile.result) c.as_slice.ensures.words c.compile.ensures.table) x c.unwrap-table.ensures legal.0 legal.1 legal.2 in
-    record {
-      known = omega arith;
-      sound = sound_from v x.len x.nodes legal.0 tab told.1;
-    }
+    record { sound = subst (λ n. Sound n x.len x.nodes) c.count.ensures.count (sound_from v x.len x.nodes legal.0 tab told.1) }
 
 pub returns : goal.returns
 returns c =
     let t = c.args.text.now in
-    let v = length c.args.starts.now in
+    let v = c.count.result in
     let read = c.in_ok-spelling.ensures in
     let legal = read.1 in
     let sp = read.2 legal.0 legal.1 legal.2 in
@@ -50,9 +49,9 @@ returns c =
         of = legal.0;
         written = record { short = read.0; nests = legal.1; spells = legal.2; fits = sp.fits };
         few = told.0;
-        suited = told.1;
+        suited = subst (λ n. Suited n legal.0) c.count.ensures.count told.1;
         tabled = tab legal.0 legal.1 legal.2;
-        begins = c.padded.ensures;
+        begins = refl;
       };
-      watches = λ f n e. watch_from _ _ c.padded.ensures f (tab f n e);
+      watches = λ f n e. watch_from _ _ refl f (tab f n e);
     }

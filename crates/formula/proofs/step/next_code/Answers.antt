@@ -39,7 +39,7 @@ loop-i-preserved-then-holds c =
     record {
       ahead = k.ahead;
       truths = ap (bit_or l.next) (c.only-next.ensures ∙ only_power i (omega (arith, t.table.few, x.0)))
-          ∙ turn_yes t.variables t.table.len t.table.nodes t.sound t.table.few c.args.code c.args.action i (length (rest l.i-iterator)) l.next c.in-Some.node.now x.0 k.more x.1 l.invariant.truths (sym c.if-holds.ensures)
+          ∙ turn_yes (length t.starts) t.table.len t.table.nodes t.sound t.table.few c.args.code c.args.action i (length (rest l.i-iterator)) l.next c.in-Some.node.now x.0 k.more x.1 l.invariant.truths (sym c.if-holds.ensures)
           ∙ ap (λ j. code_of 62 (from t.table.len (eval t.table.len t.table.nodes (bit_of c.args.code) c.args.action) j)) k.here;
     }
 
@@ -54,7 +54,7 @@ loop-i-preserved c =
     let x = item t.table.nodes t.table.len i c.in-Some.node.now k.low k.item in
     record {
       ahead = k.ahead;
-      truths = turn_no t.variables t.table.len t.table.nodes t.sound t.table.few c.args.code c.args.action i (length (rest l.i-iterator)) l.next c.in-Some.node.now x.0 k.more x.1 l.invariant.truths (sym c.if-holds.ensures)
+      truths = turn_no (length t.starts) t.table.len t.table.nodes t.sound t.table.few c.args.code c.args.action i (length (rest l.i-iterator)) l.next c.in-Some.node.now x.0 k.more x.1 l.invariant.truths (sym c.if-holds.ensures)
           ∙ ap (λ j. code_of 62 (from t.table.len (eval t.table.len t.table.nodes (bit_of c.args.code) c.args.action) j)) k.here;
     }
 
@@ -71,11 +71,11 @@ returns-then-has c =
     let value = ap (λ x. bit_or (bit_or c.loop-i.next x) c.only-all.result) (c.only.ensures ∙ only_power 60 (omega arith))
     ∙ ap (bit_or (bit_or c.loop-i.next (2 ^ 60))) (c.only-all.ensures ∙ only_power 61 (omega arith))
     ∙ whole_yes t.table.len t.table.nodes t.table.some t.table.few c.args.code c.args.action c.loop-i.next inv told in
-    let rule = subst (Turn t.table.nodes t.table.len c.args.code c.args.action) (sym value) (stepped_turn t.variables t.table.len t.table.nodes t.sound t.table.some t.table.few c.args.code c.args.action) in
+    let rule = subst (Turn t.table.nodes t.table.len c.args.code c.args.action) (sym value) (stepped_turn (length t.starts) t.table.len t.table.nodes t.sound t.table.some t.table.few c.args.code c.args.action) in
     record {
       value = value;
       rule = rule;
-      alone = λ q s. turn_one t.variables t.table.len t.table.nodes t.sound t.table.some c.args.code c.args.action q _ s rule;
+      alone = λ q s. turn_one (length t.starts) t.table.len t.table.nodes t.sound t.table.some c.args.code c.args.action q _ s rule;
     }
 
 pub returns-else-not-has : goal.returns-else-not-has
@@ -87,9 +87,9 @@ returns-else-not-has c =
     or_from _ _ (sym c.if-has.ensures) (not_from_true _ (sym c.if-not-has.ensures)) in
     let value = ap (bit_or c.loop-i.next) (c.only.ensures ∙ only_power 60 (omega arith))
     ∙ whole_no t.table.len t.table.nodes t.table.some t.table.few c.args.code c.args.action c.loop-i.next inv told in
-    let rule = subst (Turn t.table.nodes t.table.len c.args.code c.args.action) (sym value) (stepped_turn t.variables t.table.len t.table.nodes t.sound t.table.some t.table.few c.args.code c.args.action) in
+    let rule = subst (Turn t.table.nodes t.table.len c.args.code c.args.action) (sym value) (stepped_turn (length t.starts) t.table.len t.table.nodes t.sound t.table.some t.table.few c.args.code c.args.action) in
     record {
       value = value;
       rule = rule;
-      alone = λ q s. turn_one t.variables t.table.len t.table.nodes t.sound t.table.some c.args.code c.args.action q _ s rule;
+      alone = λ q s. turn_one (length t.starts) t.table.len t.table.nodes t.sound t.table.some c.args.code c.args.action q _ s rule;
     }

@@ -1,11 +1,11 @@
-use Rattle.std.proofs.Common.{◌≡◌, ℕ, ◌^◌, ◌<◌, List, get_or, take, sym, ap, ◌∙◌, subst, arith, get_or-take}
+use Rattle.std.proofs.Common.{◌≡◌, ℕ, ◌^◌, ◌<◌, List, get_or, take, sym, ap, ◌∙◌, arith, get_or-take}
 use Rattle.formula.specs.declared.node.Node.{Node}
 use lib.Bits.{bit_or}
 use Rattle.formula.specs.Meant.{starts_of}
 use Rattle.formula.specs.Step.{initial, started}
-use Rattle.formula.specs.Table.{node_at, no_node, Inside}
-use Rattle.formula.proofs.Evals.{inside_parts, inside_wider, only_power}
-use Rattle.formula.proofs.Ends.{begun, begun_none, begun_yes, begun_no, initial_known}
+use Rattle.formula.specs.Table.{node_at, no_node}
+use Rattle.formula.proofs.Evals.{only_power}
+use Rattle.formula.proofs.Ends.{begun, begun_none, begun_yes, begun_no}
 use Rattle.formula.proofs.step.start_code.Goals as goal
 use Rattle.formula.proofs.step.start_code.Goals.{then-begins, else-begins}
 
@@ -16,22 +16,13 @@ loop-i-init c = begun_none (starts_of c.args.formula.now) c.args.formula.now.tab
 same : (nodes items : List Node) (n i : ℕ) → items ≡ take n nodes → i < n → get_or items i no_node ≡ node_at nodes i
 same nodes items n i e h = ap (λ ns. get_or ns i no_node) e ∙ get_or-take n nodes i no_node h
 
-pub begins-requires : goal.begins-requires
-begins-requires c =
-    let t = c.args.formula.now in
-    let i = c.loop-i.i in
-    let low : i < t.table.len = omega arith in
-    subst (Inside 32 60 0) (sym (same t.table.nodes c.as_slice-node-items.result.now t.table.len i c.as_slice-node-items.ensures.nodes low))
-    (inside_wider t.variables 32 t.table.len 60 i 0 (node_at t.table.nodes i) t.known t.table.few (omega arith)
-    (inside_parts t.variables t.table.len i (node_at t.table.nodes i) (t.sound i low)))
-
 pub loop-i-preserved : goal.loop-i-preserved
 loop-i-preserved c =
     let t = c.args.formula.now in
     let i = c.loop-i.i in
     let low : i < t.table.len = omega arith in
-    let known = initial_known t.variables t.table.len i t.starts (node_at t.table.nodes i) (inside_parts t.variables t.table.len i (node_at t.table.nodes i) (t.sound i low))
-    ∙ ap (initial t.starts) (sym (same t.table.nodes c.as_slice-node-items.result.now t.table.len i c.as_slice-node-items.ensures.nodes low)) in
+    let known : initial t.starts (node_at t.table.nodes i) ≡ initial t.starts (get_or c.as_slice-node-items.result.now i no_node) =
+    ap (initial t.starts) (sym (same t.table.nodes c.as_slice-node-items.result.now t.table.len i c.as_slice-node-items.ensures.nodes low)) in
     elim c.if-begins.branch [
       | then-begins w ↦ w.code-is
           ∙ ap (bit_or c.loop-i.code) (w.only-code.ensures ∙ only_power i (omega arith))

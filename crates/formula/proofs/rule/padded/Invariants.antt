@@ -1,6 +1,0 @@
-use Rattle.std.proofs.Common.{◌≡◌, length, take}
-use Rattle.formula.proofs.rule.padded.Given as goal
-
--- the values so far are copied
-abbrev pub invariant-loop-i : goal.invariant-loop-i
-invariant-loop-i l = (length l.table ≡ 32) × (take l.i l.table ≡ take l.i l.starts)
