@@ -18,12 +18,16 @@ behind_push p (b ∷ bs) c = behind_push (past p b) bs c
 pub place_more : (t : List ℕ) (k : ℕ) → k < length t → past (byte_place t k) (get_or t k 0) ≡ byte_place t (k + 1)
 place_more t k h = sym (ap (behind_all start) (take_more t k 0 h) ∙ behind_push start (take k t) (get_or t k 0))
 
+-- one byte on, of those that are left
+pub place_on : (p q : Place) (c : ℕ) (left rest : List ℕ) (n m : ℕ) → left ≡ c ∷ rest → m + 1 ≡ n → q ≡ past p c → behind_all q (take m rest) ≡ behind_all p (take n left)
+place_on p q c left rest n m first size is = let one : n ≡ suc m = omega arith in rw (first, one, is) refl
+
 -- no line or column is past the count of the bytes ahead
-past_line : (b : Bool) (p : Place) → (cond {A = Place} b (record { line = p.line + 1; column = 1 }) (record { line = p.line; column = p.column + 1 })).line ≤ p.line + 1
+pub past_line : (b : Bool) (p : Place) → (cond {A = Place} b (record { line = p.line + 1; column = 1 }) (record { line = p.line; column = p.column + 1 })).line ≤ p.line + 1
 past_line true p = omega arith
 past_line false p = omega arith
 
-past_column : (b : Bool) (p : Place) → (cond {A = Place} b (record { line = p.line + 1; column = 1 }) (record { line = p.line; column = p.column + 1 })).column ≤ p.column + 1
+pub past_column : (b : Bool) (p : Place) → (cond {A = Place} b (record { line = p.line + 1; column = 1 }) (record { line = p.line; column = p.column + 1 })).column ≤ p.column + 1
 past_column true p = omega arith
 past_column false p = omega arith
 

@@ -44,10 +44,10 @@ impl TextFault {
         ensures { result ≡ text_place self }
     {
         match self {
-            TextFault::TooLong => Place { line: 1, column: 1 },
-            TextFault::Unexpected(place) => place,
-            TextFault::EndsEarly(place) => place,
-            TextFault::OutOfRange(place) => place,
+            TextFault::TooLong => Place::START,
+            TextFault::Unexpected(place)
+            | TextFault::EndsEarly(place)
+            | TextFault::OutOfRange(place) => place,
         }
     }
 }

@@ -1,6 +1,6 @@
 // Cuts a text into tokens.
 ghost use Rattle.std.specs.Prelude.{◌≡◌, ℕ, Bool, ◌+◌, ◌<◌, ◌≤◌, length, drop};
-ghost use Rattle.text.specs.Places.{byte_place, past};
+ghost use Rattle.text.specs.Places.{byte_place};
 ghost use Rattle.text.specs.Tokens.{is_blank as blank, is_letter as letter, is_digit as digit};
 ghost use Rattle.text.specs.Tokens.{Next, Tells, run, sort_of};
 
@@ -41,33 +41,17 @@ fn sort_at(text: &[u8], at: usize) -> Option<Sort>
     }
 }
 
-// The place behind a byte.
-fn behind(place: Place, byte: u8) -> Place
-    requires line_bound { place.line + 1 < 18446744073709551616 }
-    requires column_bound { place.column + 1 < 18446744073709551616 }
-    ensures { result ≡ past place byte }
-{
-    if byte == b'\n' {
-        Place {
-            line: place.line + 1,
-            column: 1,
-        }
-    } else {
-        Place {
-            line: place.line,
-            column: place.column + 1,
-        }
-    }
-}
-
 impl<'a> Reader<'a> {
     // A reader at the start of the text.
     pub fn new(text: &'a [u8]) -> Reader<'a>
         ensures text { result.text.now ≡ text.now }
         ensures start { result.at ≡ 0 }
     {
-        let place = Place { line: 1, column: 1 };
-        Reader { text, at: 0, place }
+        Reader {
+            text,
+            at: 0,
+            place: Place::START,
+        }
     }
 
     // Passes one byte.
@@ -76,11 +60,8 @@ impl<'a> Reader<'a> {
         ensures text { self.new.text.now ≡ self.old.text.now }
         ensures at { self.new.at ≡ self.old.at + 1 }
     {
-        let at = self.at;
-        let byte = self.text[at];
-        let place = behind(self.place, byte);
-        self.place = place;
-        self.at = at + 1;
+        self.place = self.place.past(self.text[self.at]);
+        self.at += 1;
     }
 
     // Passes the bytes that come next, up to the first that is not one of those told by `is`.
@@ -129,10 +110,9 @@ impl<'a> Reader<'a> {
 pub fn place_at(text: &[u8], at: usize) -> Place
     ensures { result ≡ byte_place text.now at }
 {
-    let end = at.min(text.len());
-    let mut reader = Reader::new(text);
-    while reader.at < end {
-        reader.step();
+    let mut place = Place::START;
+    for byte in text.iter().take(at) {
+        place = place.past(*byte);
     }
-    reader.place
+    place
 }

@@ -1,11 +1,17 @@
-use Rattle.std.proofs.Common.{◌≡◌, ℕ, min, List, length, ap, ◌∙◌, arith}
-use Rattle.text.specs.Places.{byte_place}
-use Rattle.text.proofs.Going.{place_end}
+use Rattle.std.proofs.Common.{length, eqb, ap, ◌∙◌, arith}
+use Rattle.text.specs.declared.place.Place.{Place}
+use Rattle.text.proofs.Going.{past_line, past_column, place_on}
 use Rattle.text.proofs.lexer.place_at.Goals as goal
 
-pub returns : goal.returns
-returns c =
-    let t = c.args.text.now in
-    let end = c.loop-reader.reader.at in
-    let least : end ≡ min c.args.at (length t) = omega (arith, c.min-end.ensures) in
-    c.loop-reader.reader.placed ∙ ap (λ (w : List ℕ). byte_place w end) c.loop-reader.invariant.0 ∙ place_end t c.args.at end least
+pub loop-byte-preserved : goal.loop-byte-preserved
+loop-byte-preserved c =
+    let steps = c.in-Some.ensures.steps in
+    let size = ap length steps.0 in
+    let line = ap (λ (p : Place). p.line) c.past-place.ensures in
+    let column = ap (λ (p : Place). p.column) c.past-place.ensures in
+    let p = c.loop-byte.place in
+    let ends = eqb c.in-Some.byte.now 10 in (
+      omega (arith, size, line, past_line ends p, c.loop-byte.invariant.0),
+      omega (arith, size, column, past_column ends p, c.loop-byte.invariant.1),
+      place_on p c.past-place.result c.in-Some.byte.now c.loop-byte.byte-iterator.iter.rest.now c.next.new.self.iter.rest.now c.loop-byte.byte-iterator.n c.next.new.self.n steps.0 steps.1 c.past-place.ensures ∙ c.loop-byte.invariant.2,
+    )

@@ -4,8 +4,8 @@ use Rattle.text.specs.Places.{past}
 use Rattle.text.proofs.Going.{place_more, line_le, column_le}
 use Rattle.text.proofs.reader.Reader.step.Goals as goal
 
-pub behind-place-requires : goal.behind-place-requires
-behind-place-requires c =
+pub past-self-requires : goal.past-self-requires
+past-self-requires c =
     let t = c.args.self.now.text.now in
     let at = c.args.self.now.at in
     let line = ap (λ (p : Place). p.line) c.args.self.now.placed in
@@ -19,4 +19,4 @@ invariant_of-self c =
     let t = c.args.self.now.text.now in
     let at = c.args.self.now.at in
     let one = ap (λ (p : Place). past p (get_or t at 0)) c.args.self.now.placed in
-    record { within = omega arith; placed = c.behind-place.ensures ∙ one ∙ place_more t at c.requires }
+    record { within = omega arith; placed = c.past-self.ensures ∙ one ∙ place_more t at c.requires }
