@@ -52,9 +52,6 @@ rule_roles r = roles_formula r.rule false (closing ∷ newline ∷ []) tt
 
 -- the rule's part of the text
 module _ (r : grammar.Recording) (t : List ℕ) (s : Reader) (is : t ≡ flat (pieces r)) (stand : Stand (pieces r) s (rule_on r)) where
-  spelling : List ℕ
-  spelling = flat (formula r.rule [])
-
   behind : flat (rule_on r) ≡ flat (formula r.rule []) ++ 41 ∷ 10 ∷ []
   behind = ap flat (formula_more r.rule (closing ∷ newline ∷ [])) ∙ flat_append (formula r.rule []) (closing ∷ newline ∷ [])
 

@@ -1,14 +1,13 @@
 -- Places and runs, one byte on.
-use Rattle.std.proofs.Common.{◌≡◌, ℕ, suc, ◌+◌, ◌-◌, ◌<◌, ◌≤◌, min, Bool, true, false, cond, eqb, ltb, List, [], ◌∷◌, ◌++◌, length, get_or, take, drop, Some, Option, sym, refl, ap, ◌∙◌, arith, length-drop, length-take, Bor}
-use Rattle.std.proofs.lemmas.List.{take_all, take_more, at_drop_more, drop-drop}
-use Rattle.std.proofs.lemmas.Bool.Decides.{nat_tests}
+use Rattle.std.proofs.Common.{◌≡◌, ℕ, suc, ◌+◌, ◌-◌, ◌<◌, ◌≤◌, Bool, true, false, cond, eqb, List, [], ◌∷◌, ◌++◌, length, get_or, take, drop, Some, Option, sym, refl, ap, ◌∙◌, arith, length-drop, length-take, Bor}
+use Rattle.std.proofs.lemmas.List.{take_more, drop-drop}
 use Rattle.text.specs.declared.place.Place.{Place}
 use Rattle.text.specs.declared.token.Sort.{Sort}
 use Rattle.text.specs.declared.token.Sort.TheVariants.{Word, Number}
 use Rattle.text.specs.declared.token.Token.{Token}
 use Rattle.text.specs.declared.token.Token.TheVariants as token
 use Rattle.text.specs.Places.{start, past, behind_all, byte_place}
-use Rattle.text.specs.Tokens.{Lexeme, Next, begins, lexeme, lexeme_as, is_digit, is_letter, placed, run, seen, size, skip, sort_of}
+use Rattle.text.specs.Tokens.{Lexeme, Next, lexeme, lexeme_as, is_digit, is_letter, placed, run, seen, size, skip, sort_of}
 
 behind_push : (p : Place) (cs : List ℕ) (c : ℕ) → behind_all p (cs ++ c ∷ []) ≡ past (behind_all p cs) c
 behind_push p [] c = refl
@@ -45,29 +44,7 @@ line_le t k = omega (arith, behind_line start (take k t), length-take k t)
 pub column_le : (t : List ℕ) (k : ℕ) → (byte_place t k).column ≤ k + 1
 column_le t k = omega (arith, behind_column start (take k t), length-take k t)
 
--- a byte of the kind is one more of the run behind it
-run-cons : (k : ℕ → Bool) (c : ℕ) (cs : List ℕ) → k c ≡ true → run k (c ∷ cs) ≡ suc (run k cs)
-run-cons k c cs e = ap (λ (b : Bool). cond b (suc (run k cs)) 0) e
-
-none_begins : (k : ℕ → Bool) (bs : List ℕ) → begins k bs ≡ false → run k bs ≡ 0
-none_begins k [] e = refl
-none_begins k (c ∷ cs) e = ap (λ (b : Bool). cond b (suc (run k cs)) 0) e
-
-pub run_more : (k : ℕ → Bool) (t : List ℕ) (i : ℕ) → i < length t → begins k (drop i t) ≡ true → run k (drop i t) ≡ run k (drop (i + 1) t) + 1
-run_more k t i h e =
-    at_drop_more (run k) t i 0 h ∙ run-cons k (get_or t i 0) (drop (i + 1) t) (sym (at_drop_more (begins k) t i 0 h) ∙ e) ∙ omega arith
-
-pub run_none : (k : ℕ → Bool) (bs : List ℕ) → begins k bs ≡ false → run k bs ≡ 0
-run_none = none_begins
-
--- a byte that begins something is there
-begins_some : (k : ℕ → Bool) (bs : List ℕ) → begins k bs ≡ true → 0 < length bs
-begins_some k [] e = let z : ◌≡◌ {A = ℕ} 0 1 = cc in omega arith
-begins_some k (c ∷ cs) e = omega arith
-
-pub begins_within : (k : ℕ → Bool) (t : List ℕ) (i : ℕ) → begins k (drop i t) ≡ true → i < length t
-begins_within k t i e = omega (arith, begins_some k (drop i t) e, length-drop i t)
-
+-- a byte that begins a token is there
 sort_some : (bs : List ℕ) (s : Sort) → sort_of bs ≡ Some s → 0 < length bs
 sort_some [] s e = let z : ◌≡◌ {A = ℕ} 0 1 = cc in omega arith
 sort_some (c ∷ cs) s e = omega arith
@@ -118,15 +95,3 @@ module _ (t was : List ℕ) (k b e : ℕ) (p : Place) (same : was ≡ t) (from :
       let x = is ∙ part_is was b e is_digit here end in
       let y = part_size was b e is_digit here end in
       next_at (Some (token.Number w p)) (cc) (y ∙ ap (λ (o : Option Lexeme). b + size o) (sym l))
-
--- past the end there is no other place
-module _ (t : List ℕ) (k e : ℕ) (least : e ≡ min k (length t)) where
-  same_front : (b : Bool) → ltb k (length t) ≡ b → take e t ≡ take k t
-  same_front true h = let same : e ≡ k = grind (arith, nat_tests) in ap (λ (n : ℕ). take n t) same
-  same_front false h =
-      let last : length t ≤ e = grind (arith, nat_tests) in
-      let past-it : length t ≤ k = grind (arith, nat_tests) in
-      take_all e t last ∙ sym (take_all k t past-it)
-
-  pub place_end : byte_place t e ≡ byte_place t k
-  place_end = ap (behind_all start) (same_front (ltb k (length t)) refl)

@@ -1,5 +1,5 @@
 -- What is read of the next token.
-use Rattle.std.proofs.Common.{◌≡◌, ℕ, zero, suc, ◌^◌, ◌<◌, ◌≤◌, Bool, true, false, ltb, leb, List, [], ◌∷◌, drop, ℤ, Some, None, Err, Option, Result, sym, refl, ap, ◌∙◌, subst, arith}
+use Rattle.std.proofs.Common.{◌≡◌, ℕ, zero, suc, ◌^◌, ◌<◌, Bool, true, false, ltb, leb, List, [], ◌∷◌, drop, ℤ, Some, None, Err, Option, Result, sym, refl, ap, ◌∙◌, subst, arith}
 use lib.Signed.{mag}
 use Rattle.std.proofs.lemmas.Bool.Decides.{nat_tests}
 use Rattle.events.specs.declared.kind.Kind.{Kind}
@@ -36,9 +36,6 @@ token_moves t k x e = omega (arith, bytes_some (drop (skip t k) t) (byte_place t
 pub moved_onward : {s e : Reader} → Moved s e → Onward s e
 moved_onward m = record { text = m.text; at = omega (arith, m.at) }
 
-pub onward_same : (s : Reader) → Onward s s
-onward_same s = record { text = refl; at = omega arith }
-
 pub onward_more : {s m e : Reader} → Onward s m → Onward m e → Onward s e
 onward_more a b = record { text = b.text ∙ a.text; at = omega (arith, a.at, b.at) }
 
@@ -62,14 +59,6 @@ pub word_moves : {s e : Reader} (v : List ℕ) → Some v ≡ word_in (ahead s.t
 word_moves {s} {e} v told m =
     let x = word_some (ahead s.text.now s.at) v told in omega (arith, m.at, token_moves s.text.now s.at x.0 x.1)
 
-number_some : (o : Option (Lexeme × Place)) (v : List ℕ × Place) → Some v ≡ number_in o → (x : Lexeme × Place) × (o ≡ Some x)
-number_some None v e = let z : ◌≡◌ {A = ℕ} 0 1 = cc in let n : ⊥ = omega arith in elim n [ ]
-number_some (Some x) v e = (x, refl)
-
-pub number_moves : {s e : Reader} (v : List ℕ × Place) → Some v ≡ number_in (ahead s.text.now s.at) → Moved s e → s.at < e.at
-number_moves {s} {e} v told m =
-    let x = number_some (ahead s.text.now s.at) v told in omega (arith, m.at, token_moves s.text.now s.at x.0 x.1)
-
 pub next_moved : {s e : Reader} {r : Option Token} → e.text.now ≡ s.text.now → Next s.text.now s.at r e.at → Moved s e
 next_moved text n = record { text = text; at = n.end }
 
@@ -79,12 +68,6 @@ ending_value zero z more h = refl
 ending_value (suc zero) z more h = refl
 ending_value (suc (suc zero)) z more h = refl
 ending_value (suc (suc (suc k))) z more h = let n : ⊥ = omega arith in elim n [ ]
-
-pub ending_lock : (k : ℕ) (z : ℤ) (more : List Piece) → 3 ≤ k → ending k z more ≡ more
-ending_lock zero z more h = let n : ⊥ = omega arith in elim n [ ]
-ending_lock (suc zero) z more h = let n : ⊥ = omega arith in elim n [ ]
-ending_lock (suc (suc zero)) z more h = let n : ⊥ = omega arith in elim n [ ]
-ending_lock (suc (suc (suc k))) z more h = refl
 
 -- by the test of the range
 taken_by : {A : Type 0} {whole rest : List Piece} {s e : Reader} {p : Piece} (m : Met whole s p rest e) (b : Bool) (x : A) (r : Result A TextFault) → r ≡ if_fits b x (byte_place (flat whole) m.from) → (b ≡ true → InRange p) → (b ≡ false → InRange p → ⊥) → Taken whole e x rest r
