@@ -86,9 +86,7 @@ impl<'a> Reader<'a> {
         let text = self.text;
         let from = self.at;
         let place = self.place;
-        let Some(sort) = sort_at(text, from) else {
-            return None;
-        };
+        let sort = sort_at(text, from)?;
         self.step();
         match sort {
             Sort::Open => Some(Token::Open(place)),
