@@ -1,7 +1,6 @@
 // The path by which a row was found.
-ghost use Rattle.std.specs.Prelude.{◌≡◌, ◌<◌, map, length};
-ghost use Rattle.explore.specs.Paths.{path_to};
-ghost use Rattle.explore.specs.ReadBack.{parent_of, back_path, written};
+ghost use Rattle.std.specs.Prelude.{◌≡◌, map, length};
+ghost use Rattle.explore.specs.ReadBack.{parent_of, path_by, back_path, written};
 
 use crate::entry::Traced;
 
@@ -18,16 +17,14 @@ pub enum NoPath {
 fn parent<R: Traced>(rows: &[R], i: usize) -> Option<usize>
     ensures { result ≡ parent_of (map R.Traced.found_from rows.now) i }
 {
-    if i >= rows.len() {
-        return None;
-    }
-    let from = rows[i].from();
+    let from = rows.get(i)?.from();
     if from < i { Some(from) } else { None }
 }
 
 // How many steps lead to a row.
+#[tactic(auto, using(crate::proofs::ReadBack::some_parent, crate::proofs::ReadBack::path_more, crate::proofs::ReadBack::path_root))]
 fn depth<R: Traced>(rows: &[R], row: usize) -> usize
-    ensures { result ≡ length (path_to (map R.Traced.found_from rows.now) (map R.Traced.found_by rows.now) row) }
+    ensures { result ≡ length (path_by R.Traced.found_from R.Traced.found_by rows.now row) }
 {
     let mut place = row;
     let mut n = 0;
@@ -41,9 +38,10 @@ fn depth<R: Traced>(rows: &[R], row: usize) -> usize
 // Writes the labels that lead from row 0 to a row into the front of `labels`, and says how many they
 // are; the labels beyond stay as they were. Of rows that are no listing it goes back as long as each
 // row was found from an earlier one.
+#[tactic(auto, using(crate::proofs::ReadBack::path_root))]
 pub fn path_back<R: Traced>(rows: &[R], row: usize, labels: &mut [u8]) -> Result<usize, NoPath>
-    ensures answer { result ≡ back_path (length rows.now) row (path_to (map R.Traced.found_from rows.now) (map R.Traced.found_by rows.now) row) (length labels.old) }
-    ensures labels { labels.new ≡ written result (path_to (map R.Traced.found_from rows.now) (map R.Traced.found_by rows.now) row) labels.old }
+    ensures answer { result ≡ back_path (length rows.now) row (path_by R.Traced.found_from R.Traced.found_by rows.now row) (length labels.old) }
+    ensures labels { labels.new ≡ written result (path_by R.Traced.found_from R.Traced.found_by rows.now row) labels.old }
 {
     if row >= rows.len() {
         return Err(NoPath::NoRow);

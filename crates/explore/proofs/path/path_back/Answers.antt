@@ -1,6 +1,6 @@
-use Rattle.std.proofs.Common.{◌≡◌, ℕ, List, ◌++◌, map, length, get_or, drop, sym, ap, ◌∙◌, arith, rules}
+use Rattle.std.proofs.Common.{◌≡◌, map, get_or, sym, ◌∙◌, arith}
 use Rattle.std.proofs.lemmas.List.{length-set}
-use Rattle.explore.proofs.ReadBack.{some_parent, path_more, path_root, laid_more, label_read}
+use Rattle.explore.proofs.ReadBack.{some_parent, path_more, laid_more, label_read}
 use Rattle.explore.proofs.path.path_back.Goals as goal
 
 pub overflow_sub-n : goal.overflow_sub-n
@@ -31,15 +31,3 @@ loop-from-preserved g c =
       laid_more fs ls c.loop-from.i c.in-Some.from c.loop-from.n _ c.label.result _ c.loop-from.labels c.in-Some.ensures
           (omega (arith, v.1)) (omega (arith, v.1, v.2)) (c.label.ensures ∙ sym l) v.3,
     )
-
-pub returns : goal.returns
-returns g c =
-    let fs = map g.R.Traced.found_from c.args.rows.now in
-    let ls = map g.R.Traced.found_by c.args.rows.now in
-    let v = c.loop-from.invariant in
-    let e = path_root fs ls c.loop-from.i c.in_default.ensures in
-    let n : c.loop-from.n ≡ 0 = v.1 ∙ ap length e in
-    record {
-      answer = search rules;
-      labels = sym (v.3 ∙ ap (λ (w : List ℕ). w ++ drop c.loop-from.n c.loop-from.labels) e ∙ ap (λ (k : ℕ). drop k c.loop-from.labels) n);
-    }
