@@ -26,6 +26,7 @@ fn parent<R: Traced>(rows: &[R], i: usize) -> Option<usize>
 fn depth<R: Traced>(rows: &[R], row: usize) -> usize
     ensures { result ≡ length (path_by R.Traced.found_from R.Traced.found_by rows.now row) }
 {
+    // Stays a loop: the library's `successors` have no end that a proof knows of.
     let mut place = row;
     let mut n = 0;
     while let Some(from) = parent(rows, place) {
@@ -50,6 +51,7 @@ pub fn path_back<R: Traced>(rows: &[R], row: usize, labels: &mut [u8]) -> Result
     if len > labels.len() {
         return Err(NoPath::Short);
     }
+    // Stays a loop by index: of what an iterator from the back writes a proof learns nothing.
     let mut i = row;
     let mut n = len;
     while let Some(from) = parent(rows, i) {

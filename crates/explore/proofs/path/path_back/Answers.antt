@@ -1,5 +1,6 @@
-use Rattle.std.proofs.Common.{◌≡◌, map, get_or, sym, ◌∙◌, arith}
+use Rattle.std.proofs.Common.{◌≡◌, ◌-◌, ◌++◌, map, get_or, drop, sym, ◌∙◌, arith}
 use Rattle.std.proofs.lemmas.List.{length-set}
+use Rattle.explore.specs.Paths.{path_to}
 use Rattle.explore.proofs.ReadBack.{some_parent, path_more, laid_more, label_read}
 use Rattle.explore.proofs.path.path_back.Goals as goal
 
@@ -28,6 +29,6 @@ loop-from-preserved g c =
       omega (arith, v.0),
       omega (arith, v.1),
       simp length-set (omega (arith, v.2)),
-      laid_more fs ls c.loop-from.i c.in-Some.from c.loop-from.n _ c.label.result _ c.loop-from.labels c.in-Some.ensures
+      laid_more fs ls c.loop-from.i c.in-Some.from c.loop-from.n (c.loop-from.n - 1) c.label.result (path_to fs ls c.args.row ++ drop c.depth-len.result c.args.labels.now) c.loop-from.labels c.in-Some.ensures
           (omega (arith, v.1)) (omega (arith, v.1, v.2)) (c.label.ensures ∙ sym l) v.3,
     )
