@@ -1,13 +1,14 @@
 -- Rightly found rows with no step left out are the front of every listing.
 use Rattle.std.proofs.Common.{◌≡◌, ℕ, zero, suc, ◌<◌, ◌≤◌, true, false, List, length, get_or, take, sym, ap, ◌∙◌, subst, ⊎_elim, arith}
 use Rattle.std.proofs.lemmas.List.{get_or_default, same_lists, length-take-le, get_or-take, take_all}
-use Rattle.std.proofs.lemmas.Bool.{le-leb, lt-leb}
+use Rattle.std.proofs.lemmas.Bool.{cases_lt, le-leb, lt-leb}
+use Rattle.std.proofs.Math.Nat.{eq-or-lt_of_le}
 use Rattle.explore.specs.System.{System, Steps}
 use Rattle.explore.specs.Rows.{Row, At, Has, Before, row_at}
 use Rattle.explore.specs.Listing.{Found, Listing, Passed, Wanting, none, next}
 use Rattle.explore.specs.Upto.{Upto}
 use Rattle.explore.specs.Theorems.{RoomHoldsFirst}
-use Rattle.explore.proofs.Places.{at_self, at_same, row-at, le_cases, le_or_lt, NoLater, not-before}
+use Rattle.explore.proofs.Places.{at_self, at_same, row-at, NoLater, not-before}
 
 -- xs is a front of ys
 abbrev pub Front : {A : Type 0} → List A → List A → Type 0
@@ -58,9 +59,9 @@ module _ {N : Type 0} (S : System N) (xs ys : List (Row N)) (fx : Found S xs) (p
         subst (λ (ρ : Row N). At xs k ρ) (at_same ys k (get_or xs k s) s (ih k b (get_or xs k s) o) t) o
 
     late : j ≤ spot.place
-    late = ⊎_elim (λ k. k)
-        (λ (k : spot.place < j). absurd (fx.once spot.place j spot.row x k (down spot.place spot.row k spot.at) u spot.is))
-        (le_or_lt j spot.place)
+    late = ⊎_elim (λ (k : spot.place < j). absurd (fx.once spot.place j spot.row x k (down spot.place spot.row k spot.at) u spot.is))
+        (λ k. k)
+        (cases_lt spot.place j)
 
     -- row j of ys
     z : Row N
@@ -77,9 +78,9 @@ module _ {N : Type 0} (S : System N) (xs ys : List (Row N)) (fx : Found S xs) (p
     upper : NoLater z.from z.label x.from x.label
     upper =
         let w = spot_early in
-        ⊎_elim (λ k. let b = fy.rising j spot.place z spot.row pos k z_at spot.at in omega arith)
-        (λ (q : j ≡ spot.place). subst (λ (ρ : Row N). NoLater ρ.from ρ.label x.from x.label) (at_same ys j spot.row z (subst (λ (k : ℕ). At ys k spot.row) (sym q) spot.at) z_at) w)
-        (le_cases j spot.place late)
+        ⊎_elim (λ (q : j ≡ spot.place). subst (λ (ρ : Row N). NoLater ρ.from ρ.label x.from x.label) (at_same ys j spot.row z (subst (λ (k : ℕ). At ys k spot.row) (sym q) spot.at) z_at) w)
+        (λ k. let b = fy.rising j spot.place z spot.row pos k z_at spot.at in omega arith)
+        (eq-or-lt_of_le late)
 
     z_up : z.from < j
     z_up = fy.earlier j z pos z_at
@@ -102,21 +103,21 @@ module _ {N : Type 0} (S : System N) (xs ys : List (Row N)) (fx : Found S xs) (p
     lower b =
         let w = px j x pos u z.from z.label q z.node q_in b q_step in
         ⊎_elim
+        (λ (k : w.place < j). fy.once w.place j w.row z k (ih w.place k w.row w.at) z_at w.is)
         (λ (k : j ≤ w.place). ⊎_elim
-        (λ (l : j < w.place). let c = fx.rising j w.place x w.row pos l u w.at in
-        fx.earliest w.place z.from z.label w.row q (omega arith) w.at q_in (omega arith) (rw w.is q_step))
         (λ (e : j ≡ w.place). let s : w.row ≡ x = at_same xs j w.row x (subst (λ (k : ℕ). At xs k w.row) (sym e) w.at) u in
         fx.earliest j z.from z.label x q pos u q_in b (subst (λ (n : N). Steps S q.node z.label n) (sym w.is ∙ ap (λ (ρ : Row N). ρ.node) s) q_step))
-        (le_cases j w.place k))
-        (λ (k : w.place < j). fy.once w.place j w.row z k (ih w.place k w.row w.at) z_at w.is)
-        (le_or_lt j w.place)
+        (λ (l : j < w.place). let c = fx.rising j w.place x w.row pos l u w.at in
+        fx.earliest w.place z.from z.label w.row q (omega arith) w.at q_in (omega arith) (rw w.is q_step))
+        (eq-or-lt_of_le k))
+        (cases_lt w.place j)
 
     z_from : z.from ≡ x.from
-    z_from = let h = upper in ⊎_elim (λ (k : z.from < x.from). absurd (lower (omega arith))) (λ k. k) (le_cases z.from x.from h.0)
+    z_from = let h = upper in ⊎_elim (λ k. k) (λ (k : z.from < x.from). absurd (lower (omega arith))) (eq-or-lt_of_le h.0)
 
     z_label : z.label ≡ x.label
     z_label = let h = upper in let e = z_from in
-        ⊎_elim (λ (k : z.label < x.label). absurd (lower (omega arith))) (λ k. k) (le_cases z.label x.label (omega arith))
+        ⊎_elim (λ k. k) (λ (k : z.label < x.label). absurd (lower (omega arith))) (eq-or-lt_of_le {n = z.label} {m = x.label} (omega arith))
 
     z_node : z.node ≡ x.node
     z_node =
@@ -134,17 +135,17 @@ module _ {N : Type 0} (S : System N) (xs ys : List (Row N)) (fx : Found S xs) (p
 
   agree : (n j : ℕ) → j < n → (x : Row N) → At xs j x → At ys j x
   agree zero j h x u = absurd (omega arith)
-  agree (suc n) j h x u = ⊎_elim (λ (k : j < n). agree n j k x u)
-      (λ (e : j ≡ n). ⊎_elim
-      (λ (k : 0 < j). here j k (λ i l. agree n i (omega arith)) x u)
+  agree (suc n) j h x u = ⊎_elim (λ (e : j ≡ n). ⊎_elim
       (λ (k : 0 ≡ j). subst (λ (i : ℕ). At ys i x) k (at_root x (subst (λ (i : ℕ). At xs i x) (sym k) u)))
-      (le_cases 0 j (omega arith)))
-      (le_cases j n (omega arith))
+      (λ (k : 0 < j). here j k (λ i l. agree n i (omega arith)) x u)
+      (eq-or-lt_of_le {n = 0} {m = j} (omega arith)))
+      (λ (k : j < n). agree n j k x u)
+      (eq-or-lt_of_le {n = j} {m = n} (omega arith))
 
   pub front : Front xs ys
   front = (
-    ⊎_elim (λ k. k) (λ (k : length ys < length xs). let w = agree (length xs) (length ys) k (row_at S xs (length ys)) (row-at S xs (length ys) k) in absurd (omega arith))
-        (le_or_lt (length xs) (length ys)),
+    ⊎_elim (λ (k : length ys < length xs). let w = agree (length xs) (length ys) k (row_at S xs (length ys)) (row-at S xs (length ys) k) in absurd (omega arith)) (λ k. k)
+        (cases_lt (length ys) (length xs)),
     λ j x u. agree (length xs) j u.0 x u,
   )
 
@@ -163,12 +164,12 @@ module _ {N : Type 0} (S : System N) where
   wanted xs ys f l none = l.some
   wanted xs ys f l (next j a r m u s lacks) =
       let w = l.closed j a r m (f.1 j r u) s in
-      ⊎_elim (λ (k : length xs ≤ w.place). let b = w.at.0 in omega arith)
-      (λ (k : w.place < length xs).
+      ⊎_elim (λ (k : w.place < length xs).
       let o = at_self xs w.place w.row k in
       let e : get_or xs w.place w.row ≡ w.row = at_same ys w.place _ _ (f.1 w.place (get_or xs w.place w.row) o) w.at in
       absurd (lacks w.place w.row (subst (λ (ρ : Row N). At xs w.place ρ) e o) w.is))
-      (le_or_lt (length xs) w.place)
+      (λ (k : length xs ≤ w.place). let b = w.at.0 in omega arith)
+      (cases_lt w.place (length xs))
 
 pub room : {N : Type 0} → RoomHoldsFirst N
 room S c rows whole true l h =

@@ -1,12 +1,14 @@
 -- A listing has exactly the nodes that can be reached, by their first paths.
 use Rattle.std.proofs.Common.{◌≡◌, ℕ, zero, suc, ◌<◌, ◌≤◌, List, [], ◌∷◌, reverse, length, sym, ap, ◌∙◌, subst, inl, inr, ⊎_elim, arith}
 use mathlib.Core.List.{reverse_aux}
+use Rattle.std.proofs.lemmas.Bool.{cases_lt}
+use Rattle.std.proofs.Math.Nat.{eq-or-lt_of_le}
 use native.Mathlib.Decide.{dec_lt}
 use Rattle.explore.specs.System.{System, Steps, Goes, here, along}
 use Rattle.explore.specs.Rows.{Row, Before, row_at}
 use Rattle.explore.specs.Listing.{Found, Listing}
 use Rattle.explore.specs.Paths.{Reaches}
-use Rattle.explore.proofs.Places.{row-at, is_row_at, le_cases, le_or_lt, NoLater, not-before}
+use Rattle.explore.proofs.Places.{row-at, is_row_at, NoLater, not-before}
 use Rattle.explore.proofs.Words.{Lt, Le, lt-le, le_cons, lt_sooner, le_sooner}
 use Rattle.explore.proofs.Back.{way, up, way_none, way_more, way_enough}
 
@@ -37,8 +39,8 @@ module _ {N : Type 0} (S : System N) where
         let o : Before r.from r.label s.from s.label = v.rising (suc j) l r s (omega arith) k (row-at S rows (suc j) (omega arith)) (row-at S rows l b) in
         let u = up S rows v l (omega arith) b in
         let d : Lt (r.label ∷ W f r.from) (s.label ∷ W f s.from) =
-        ⊎_elim (λ lt. inl (way_less f r.from s.from (omega arith) lt (omega arith)))
-        (λ e. inr (ap (λ (i : ℕ). W f i) e, omega arith)) (le_cases r.from s.from o.0) in
+        ⊎_elim (λ e. inr (ap (λ (i : ℕ). W f i) e, omega arith))
+        (λ lt. inl (way_less f r.from s.from (omega arith) lt (omega arith))) (eq-or-lt_of_le o.0) in
         rw (way_more S rows v f (suc j) (omega arith) (omega arith), way_more S rows v f l (omega arith) b) d
 
     leads : (f j : ℕ) → j ≤ f → j < length rows → Leads S (W f j) (row_at S rows j).node
@@ -63,8 +65,8 @@ module _ {N : Type 0} (S : System N) where
         let n : NoLater r.from r.label y b = h (omega arith) in
         let same : W x r.from ≡ W y r.from = way_enough S rows v x y r.from (omega arith) n.0 in
         let d : Le (r.label ∷ W y r.from) (b ∷ p) =
-        ⊎_elim (λ lt. inr (inl (lt-le (W y r.from) (W y y) p (way_less y r.from y (omega arith) lt hy) k)))
-        (λ (e : r.from ≡ y). le_cons r.label b (W y r.from) p (omega arith) (subst (λ (i : ℕ). Le (W y i) p) (sym e) k)) (le_cases r.from y n.0) in
+        ⊎_elim (λ (e : r.from ≡ y). le_cons r.label b (W y r.from) p (omega arith) (subst (λ (i : ℕ). Le (W y i) p) (sym e) k))
+        (λ lt. inr (inl (lt-le (W y r.from) (W y y) p (way_less y r.from y (omega arith) lt hy) k))) (eq-or-lt_of_le n.0) in
         rw (way_more S rows v x (suc x) (omega arith) hx, same) d
 
   -- where a node is listed whose path comes no later than p
@@ -121,8 +123,8 @@ module _ {N : Type 0} (S : System N) where
           order = λ j l h b. lt_sooner (W rows v j j) (W rows v l l) (rows_less rows v j l h b);
           best = λ P j b none p n g pn. let w = least_of p n g in
               le_sooner (W rows v j j) p (⊎_elim
-              (λ lt. ⊎_elim (λ l. inr (lt-le (W rows v j j) (W rows v w.place w.place) (reverse p) (rows_less rows v j w.place l w.within) w.le))
-              (λ e. subst (λ (x : ℕ). Le (W rows v x x) (reverse p)) (sym e) w.le) (le_cases j w.place lt))
               (λ lt. absurd (none w.place lt (ap P w.is ∙ pn)))
-              (le_or_lt j w.place));
+              (λ lt. ⊎_elim (λ e. subst (λ (x : ℕ). Le (W rows v x x) (reverse p)) (sym e) w.le)
+              (λ l. inr (lt-le (W rows v j j) (W rows v w.place w.place) (reverse p) (rows_less rows v j w.place l w.within) w.le)) (eq-or-lt_of_le lt))
+              (cases_lt w.place j));
         }

@@ -1,23 +1,9 @@
 -- Places of a list with one more element, and the order of steps.
-use Rattle.std.proofs.Common.{◌≡◌, ℕ, ◌+◌, ◌<◌, ◌≤◌, ◌⊎◌, List, [], ◌∷◌, ◌++◌, length, get_or, sym, refl, ◌∙◌, inl, inr, arith}
-use native.Mathlib.Decide.{dec_lt}
+use Rattle.std.proofs.Common.{◌≡◌, ℕ, ◌+◌, ◌<◌, ◌≤◌, ◌⊎◌, List, [], ◌∷◌, ◌++◌, length, get_or, sym, refl, ◌∙◌, inl, inr, ⊎_elim, arith}
 use Rattle.std.proofs.lemmas.List.{get_or_append_left, get_or_push, length_push, get_or_default}
+use Rattle.std.proofs.lemmas.Bool.{cases_lt}
 use Rattle.explore.specs.System.{System}
 use Rattle.explore.specs.Rows.{Row, At, Before, first_row, row_at}
-
-pub le_cases : (m n : ℕ) → m ≤ n → (m < n) ⊎ (m ≡ n)
-le_cases m n h = go (dec_lt m n)
-  where
-    go : Dec (m < n) → (m < n) ⊎ (m ≡ n)
-    go (yes l) = inl l
-    go (no l) = inr (omega arith)
-
-pub le_or_lt : (m n : ℕ) → (m ≤ n) ⊎ (n < m)
-le_or_lt m n = go (dec_lt n m)
-  where
-    go : Dec (n < m) → (m ≤ n) ⊎ (n < m)
-    go (yes l) = inr l
-    go (no l) = inl (omega arith)
 
 module _ {A : Type 0} where
   pub at_self : (xs : List A) (j : ℕ) (d : A) → j < length xs → At xs j (get_or xs j d)
@@ -34,11 +20,10 @@ module _ {A : Type 0} where
   at_same xs j x y h k = h.1 ∙ get_or_default xs j x y h.0 ∙ sym k.1
 
   pub at_split : (xs : List A) (y : A) (j : ℕ) (x : A) → At (xs ++ y ∷ []) j x → At xs j x ⊎ ((j ≡ length xs) × (x ≡ y))
-  at_split xs y j x h = go (dec_lt j (length xs))
-    where
-      go : Dec (j < length xs) → At xs j x ⊎ ((j ≡ length xs) × (x ≡ y))
-      go (yes l) = inl (l, h.1 ∙ get_or_append_left xs (y ∷ []) x j l)
-      go (no l) = inr (omega (arith, simp length_push at h.0), h.1 ∙ get_or_push xs y x j (omega (arith, simp length_push at h.0)))
+  at_split xs y j x h = ⊎_elim
+      (λ l. inl (l, h.1 ∙ get_or_append_left xs (y ∷ []) x j l))
+      (λ l. inr (omega (arith, simp length_push at h.0), h.1 ∙ get_or_push xs y x j (omega (arith, simp length_push at h.0))))
+      (cases_lt j (length xs))
 
   -- ahead of the new place stands what stood there
   pub at_down : (xs : List A) (y : A) (j : ℕ) (x : A) → j < length xs → At (xs ++ y ∷ []) j x → At xs j x
@@ -56,25 +41,19 @@ abbrev pub NoLater : ℕ → ℕ → ℕ → ℕ → Type 0
 NoLater i a j b = (i ≤ j) × (j ≤ i → a ≤ b)
 
 pub split_before : (j b i a : ℕ) → Before j b i (a + 1) → Before j b i a ⊎ ((j ≡ i) × (b ≡ a))
-split_before j b i a h = go (dec_lt j i) (dec_lt b a)
-  where
-    go : Dec (j < i) → Dec (b < a) → Before j b i a ⊎ ((j ≡ i) × (b ≡ a))
-    go (yes l) d = inl (omega arith)
-    go (no l) (yes m) = inl (omega arith)
-    go (no l) (no m) = inr (omega arith)
+split_before j b i a h = ⊎_elim
+    (λ l. inl (omega arith))
+    (λ l. ⊎_elim (λ m. inl (omega arith)) (λ m. inr (omega arith)) (cases_lt b a))
+    (cases_lt j i)
 
 pub before_turn : (j b i : ℕ) → Before j b (i + 1) 0 → j ≤ i
-before_turn j b i h = go (dec_lt i j)
-  where
-    go : Dec (i < j) → j ≤ i
-    go (yes l) = absurd (omega (arith, h.1 (omega arith)))
-    go (no l) = omega arith
+before_turn j b i h = ⊎_elim (λ l. absurd (omega (arith, h.1 (omega arith)))) (λ l. l) (cases_lt i j)
 
 pub not-before : (j b i a : ℕ) → (Before j b i a → ⊥) → NoLater i a j b
-not-before j b i a h = go (dec_lt j i) (dec_lt i j) (dec_lt b a)
-  where
-    go : Dec (j < i) → Dec (i < j) → Dec (b < a) → NoLater i a j b
-    go (yes l) d e = absurd (h (omega arith))
-    go (no l) (yes k) e = omega arith
-    go (no l) (no k) (yes m) = absurd (h (omega arith))
-    go (no l) (no k) (no m) = omega arith
+not-before j b i a h = ⊎_elim
+    (λ l. absurd (h (omega arith)))
+    (λ l. ⊎_elim
+    (λ k. omega arith)
+    (λ k. ⊎_elim (λ m. absurd (h (omega arith))) (λ m. omega arith) (cases_lt b a))
+    (cases_lt i j))
+    (cases_lt j i)

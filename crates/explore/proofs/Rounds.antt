@@ -1,22 +1,16 @@
 -- A system in levels has a listing.
-use Rattle.std.proofs.Common.{◌≡◌, ℕ, zero, suc, ◌+◌, ◌-◌, ◌<◌, ◌≤◌, Bool, true, false, ◌||◌, ◌⊎◌, List, [], ◌∷◌, ◌++◌, length, Some, None, Option, refl, subst, inl, inr, ⊎_elim, arith}
+use Rattle.std.proofs.Common.{◌≡◌, ℕ, zero, suc, ◌+◌, ◌-◌, ◌<◌, ◌≤◌, Bool, true, false, List, [], ◌∷◌, ◌++◌, length, Some, None, Option, refl, subst, ⊎_elim, arith}
 use Rattle.std.proofs.lemmas.List.{length_push}
+use Rattle.std.proofs.lemmas.Bool.{or_cases, or_parts}
+use Rattle.std.proofs.Math.Nat.{eq-or-lt_of_le}
 use Rattle.explore.specs.System.{System, Steps}
 use Rattle.explore.specs.Rows.{Row, At, Has, Lacks, row_of, row_at, first_row}
 use Rattle.explore.specs.Listing.{Listing}
 use Rattle.explore.specs.Levels.{Levelled, Tells}
 use Rattle.explore.specs.Rounds.{listed, put_unless, put, tried, swept, rounds, computed}
 use Rattle.explore.specs.Upto.{Upto}
-use Rattle.explore.proofs.Places.{at_split, row-at, le_cases}
+use Rattle.explore.proofs.Places.{at_split, row-at}
 use Rattle.explore.proofs.Advance.{start, none, seen, new, turn, listing}
-
-or-true : (a b : Bool) → (a || b) ≡ true → (a ≡ true) ⊎ (b ≡ true)
-or-true true b h = inl refl
-or-true false b h = inr h
-
-or-false : (a b : Bool) → (a || b) ≡ false → (a ≡ false) × (b ≡ false)
-or-false true b h = (h, cc)
-or-false false b h = (refl, h)
 
 module _ {N : Type 0} (same : N → N → Bool) (t : Tells same) where
   listed_has : (rows : List (Row N)) (m : N) → listed same rows m ≡ true → Has rows m
@@ -24,15 +18,15 @@ module _ {N : Type 0} (same : N → N → Bool) (t : Tells same) where
   listed_has (r ∷ rows) m h = ⊎_elim
       (λ e. record { place = 0; row = r; at = (omega arith, refl); is = t.equal r.node m e })
       (λ e. let w = listed_has rows m e in record { place = suc w.place; row = w.row; at = (let l = w.at.0 in omega arith, w.at.1); is = w.is })
-      (or-true (same r.node m) (listed same rows m) h)
+      (or_cases (same r.node m) (listed same rows m) h)
 
   listed_lacks : (rows : List (Row N)) (m : N) → listed same rows m ≡ false → Lacks rows m
   listed_lacks [] m h x s u e = omega arith
   listed_lacks (r ∷ rows) m h zero s u e =
-      let o = or-false (same r.node m) (listed same rows m) h in
+      let o = or_parts (same r.node m) (listed same rows m) h in
       let k = t.self m in
       let z : ◌≡◌ {A = ℕ} 0 1 = cc in omega arith
-  listed_lacks (r ∷ rows) m h (suc x) s u e = listed_lacks rows m (or-false (same r.node m) (listed same rows m) h).1 x s (omega arith, u.1) e
+  listed_lacks (r ∷ rows) m h (suc x) s u e = listed_lacks rows m (or_parts (same r.node m) (listed same rows m) h).1 x s (omega arith, u.1) e
 
 module _ {N : Type 0} (S : System N) (same : N → N → Bool) (top : ℕ) (v : Levelled S top) (t : Tells same) where
   -- the rows from n on are at level l or above
@@ -97,8 +91,8 @@ module _ {N : Type 0} (S : System N) (same : N → N → Bool) (top : ℕ) (v : 
 
   rounds_end : (k : ℕ) (rows : List (Row N)) (i l : ℕ) → Upto S rows i 0 → From rows i l → Good rows → l + k ≡ top + 1 → Listing S (rounds S same rows i k)
   rounds_end zero rows i l g h f e = listing S (subst (λ (x : ℕ). Upto S rows x 0) (⊎_elim
-      (λ (b : i < length rows). let p = h i (row_at S rows i) (omega arith) (row-at S rows i b) in absurd (omega (arith, v.level_top (row_at S rows i).node (f i (row_at S rows i) (row-at S rows i b)))))
-      (λ (q : i ≡ length rows). q) (le_cases i (length rows) g.within)) g)
+      (λ (q : i ≡ length rows). q)
+      (λ (b : i < length rows). let p = h i (row_at S rows i) (omega arith) (row-at S rows i b) in absurd (omega (arith, v.level_top (row_at S rows i).node (f i (row_at S rows i) (row-at S rows i b))))) (eq-or-lt_of_le g.within)) g)
   rounds_end (suc k) rows i l g h f e =
       let w = g.within in
       let u = swept_round (length rows - i) rows i (length rows) l (record { upto = g; low = h; high = (λ j r o p. absurd (omega arith)); fine = f; room = omega arith }) (omega arith) in

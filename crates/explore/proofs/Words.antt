@@ -2,8 +2,8 @@
 use Rattle.std.proofs.Common.{◌≡◌, ℕ, ◌<◌, ◌≤◌, ◌⊎◌, List, [], ◌∷◌, reverse, length, sym, ap, ◌∙◌, subst, ap₂, inl, inr, ⊎_elim, arith}
 use mathlib.Core.List.{reverse_aux, reverse-reverse}
 use Rattle.std.proofs.lemmas.List.{length-reverse}
+use Rattle.std.proofs.Math.Nat.{eq-or-lt_of_le}
 use Rattle.explore.specs.Paths.{Less, Sooner}
-use Rattle.explore.proofs.Places.{le_cases}
 
 -- p comes ahead of q: by length first, and then by the last place at which they differ
 abbrev pub Lt : List ℕ → List ℕ → Type 0
@@ -31,7 +31,7 @@ lt-le p q r h (inl e) = subst (λ (w : List ℕ). Lt p w) e h
 lt-le p q r h (inr k) = lt_trans p q r h k
 
 pub le_cons : (c a : ℕ) (t p : List ℕ) → c ≤ a → Le t p → Le (c ∷ t) (a ∷ p)
-le_cons c a t p h (inl e) = ⊎_elim (λ l. inr (inr (e, l))) (λ q. inl (ap₂ ◌∷◌ q e)) (le_cases c a h)
+le_cons c a t p h (inl e) = ⊎_elim (λ q. inl (ap₂ ◌∷◌ q e)) (λ l. inr (inr (e, l))) (eq-or-lt_of_le h)
 le_cons c a t p h (inr k) = inr (inl k)
 
 same_front : (p u w : List ℕ) → Less u w → Less (reverse_aux p u) (reverse_aux p w)
