@@ -28,6 +28,7 @@ impl<N: Copy, R: Entry<N>, M: Machine<N>> Exploration<'_, '_, '_, N, R, M> {
     }
 
     // Tries a label at row i: the node that it leads to, if any, is put last unless it is listed.
+    #[tactic(auto, using(crate::proofs::Tables::row_read, crate::proofs::Tables::one_none, crate::proofs::Tables::one_seen))]
     fn try_label(&mut self, i: usize, label: u8) -> Result<(), Full>
         requires upto { Upto (M.Machine.system self.old.machine.now) (rows_by R.Entry (listed self.old.list.now)) i label }
         requires inside { i < count self.old.list.now }
@@ -46,6 +47,7 @@ impl<N: Copy, R: Entry<N>, M: Machine<N>> Exploration<'_, '_, '_, N, R, M> {
     }
 
     // Tries every label at row i.
+    #[tactic(auto, using(crate::proofs::Tables::goes_further))]
     fn expand(&mut self, i: usize) -> Result<(), Full>
         requires upto { Upto (M.Machine.system self.old.machine.now) (rows_by R.Entry (listed self.old.list.now)) i 0 }
         requires inside { i < count self.old.list.now }
@@ -59,6 +61,7 @@ impl<N: Copy, R: Entry<N>, M: Machine<N>> Exploration<'_, '_, '_, N, R, M> {
     }
 
     // Fills an empty list with every node that can be reached, as far as there is room.
+    #[tactic(auto, using(crate::proofs::Tables::goes_further))]
     fn fill(&mut self) -> Result<(), Full>
         requires { count self.old.list.now ≡ 0 }
         ensures goes_on { GoesOn self.old self.new }

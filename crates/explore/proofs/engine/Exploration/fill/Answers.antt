@@ -1,6 +1,6 @@
 use Rattle.std.proofs.Common.{◌≡◌, [], length, false, is_ok, rules}
 use Rattle.rows.specs.Listed.{lent, listed, roomy}
-use Rattle.explore.proofs.Tables.{no_room, goes_further}
+use Rattle.explore.proofs.Tables.{no_room}
 use Rattle.explore.proofs.engine.Exploration.fill.Goals as goal
 
 pub returns-in_err-push-clause-holds : goal.returns-in_err-push-clause-holds
@@ -11,6 +11,3 @@ returns-in_err-push-clause-holds g c =
     let none : listed c.push.new.self ≡ [] = search rules in
     let refused : is_ok c.from_residual.result ≡ false = search rules in
     rw (used, none, refused) (no_room g.R.Keyed.keyed g.R.Traced.found_from g.R.Traced.found_by (g.M.Machine.system c.args.self.now.machine.now))
-
-pub loop-i-preserved : goal.loop-i-preserved
-loop-i-preserved g c = (c.in_ok-expand.ensures.leaves, goes_further c.args.self.now c.loop-i.self c.expand.new.self c.loop-i.invariant.1 c.in_ok-expand.ensures.goes_on)

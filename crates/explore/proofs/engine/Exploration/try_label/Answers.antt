@@ -1,14 +1,7 @@
 use Rattle.std.proofs.Common.{◌≡◌, ◌+◌, ◌++◌, [], ◌∷◌, length, length-take-le, false, rules}
 use Rattle.rows.specs.Listed.{lent, listed, roomy}
-use Rattle.explore.proofs.Tables.{row_read, one_none, one_seen, one_new, one_full, leaves_err}
+use Rattle.explore.proofs.Tables.{row_read, one_new, one_full, leaves_err}
 use Rattle.explore.proofs.engine.Exploration.try_label.Goals as goal
-
-pub returns-in_default-clause-leaves : goal.returns-in_default-clause-leaves
-returns-in_default-clause-leaves g c =
-    let list = c.args.self.now.list.now in
-    let row = row_read list.rows.now list.len list.within c.args.i c.index-as_slice-i.result c.as_slice.result.now c.requires.inside c.as_slice.ensures c.index-as_slice-i.is in
-    one_none g.R.Keyed.keyed g.R.Traced.found_from g.R.Traced.found_by (g.M.Machine.system c.args.self.now.machine.now) (listed list) c.args.i c.args.label c.index-as_slice-i.result c.requires.upto
-    row (search rules)
 
 pub returns-in_err-push-clause-leaves : goal.returns-in_err-push-clause-leaves
 returns-in_err-push-clause-leaves g c =
@@ -28,10 +21,3 @@ returns-in_ok-push-clause-leaves g c =
     let now : listed c.push.new.self ≡ listed list ++ c.new.result ∷ [] = search rules in
     rw now (one_new g.R.Keyed.keyed g.R.Traced.found_from g.R.Traced.found_by (g.M.Machine.system c.args.self.now.machine.now) (listed list) c.args.i c.args.label c.index-as_slice-i.result c.requires.upto
     row c.in-Some.node (c.requires.valid, search rules) (search rules) c.new.result c.new.ensures.node c.new.ensures.from c.new.ensures.label)
-
-pub returns-else-not-stands-clause-leaves : goal.returns-else-not-stands-clause-leaves
-returns-else-not-stands-clause-leaves g c =
-    let list = c.args.self.now.list.now in
-    let row = row_read list.rows.now list.len list.within c.args.i c.index-as_slice-i.result c.as_slice.result.now c.requires.inside c.as_slice.ensures c.index-as_slice-i.is in
-    one_seen g.R.Keyed.keyed g.R.Traced.found_from g.R.Traced.found_by (g.M.Machine.system c.args.self.now.machine.now) (listed list) c.args.i c.args.label c.index-as_slice-i.result c.requires.upto
-    row c.in-Some.node (search rules) (search rules)
