@@ -15,6 +15,7 @@ use std::marker::PhantomData;
 #[derive(Drop)]
 struct Exploration<'m, 'l, 'r, N, R, M> {
     machine: &'m M,
+    // Lent, and not owned: a proof does not follow a loan that is two structs deep.
     list: &'l mut Rows<'r, R>,
     nodes: PhantomData<N>,
 }
@@ -67,6 +68,7 @@ impl<N: Copy, R: Entry<N>, M: Machine<N>> Exploration<'_, '_, '_, N, R, M> {
         ensures goes_on { GoesOn self.old self.new }
         ensures holds { Holds (M.Machine.system self.new.machine.now) (length (lent self.new.list.now)) (rows_by R.Entry (listed self.new.list.now)) (is_ok result) }
     {
+        // No step leads to row 0, and it has 0 and 255 for one: rows are numbers that callers read.
         self.list.push(R::new(self.machine.first(), 0, 255))?;
         // Stays a loop by index: the list grows while it is gone through.
         let mut i = 0;
