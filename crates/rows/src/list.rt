@@ -6,6 +6,7 @@ ghost use Rattle.std.specs.Prelude.{◌≡◌, ◌≤◌, ◌+◌, [], ◌∷◌
 pub struct Full;
 
 // The first `len` of the lent rows are listed; those beyond stay as they were lent.
+// Stays a slice with a length, and no Vec: callers lend the rows, and no call takes memory.
 #[derive(Drop)]
 pub struct Rows<'a, R> {
     pub(crate) rows: &'a mut [R],
