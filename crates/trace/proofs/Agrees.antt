@@ -18,7 +18,7 @@ use Rattle.trace.specs.Settings.{opening_with}
 use Rattle.trace.specs.Fields.{opening_in}
 use Rattle.trace.specs.Steps.{opening_but_rows, step_tests}
 use Rattle.trace.proofs.Bounds.{few_threads, same_void, same_threads, same_starts}
-use Rattle.trace.proofs.Invariant.{Kept, same_lock_lem}
+use Rattle.trace.proofs.Invariant.{Kept}
 
 -- Two lists of reasons are alike where their tests agree, each wherever those ahead of it fail.
 data Alike {R : Type 0} : List (Bool × R) → List (Bool × R) → Type 0 where
@@ -68,7 +68,7 @@ refused_is s rows a k =
     (λ subject.
     let below : a.subject < subjects o a.kind = leb-false (subjects o a.kind) a.subject subject in
     let mine : a.thread < 8 = omega (arith, leb-false o.threads a.thread thread, few_threads s.setting all) in
-    let lock : a.subject < 16 → lock_now es a.subject ≡ get_or s.locks a.subject Free = λ h. sym (same_lock_lem (get_or s.locks a.subject Free) (lock_now es a.subject) (k.locked a.subject h)) in
+    let lock : a.subject < 16 → lock_now es a.subject ≡ get_or s.locks a.subject Free = λ h. sym (k.locked a.subject h) in
     agree refl
     (λ zero. agree
     (both (eqb a.kind 1) _ _ (λ e. ap (λ (v : ℤ). not (eq_z a.value v)) (sym (k.valued a.subject (omega (arith, read_subjects o a.kind e, below))))))

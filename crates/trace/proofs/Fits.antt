@@ -1,5 +1,5 @@
 -- The first reason that fits, over parts of a list of reasons.
-use Rattle.std.proofs.Common.{◌≡◌, ℕ, Bool, true, false, cond, leb, List, [], ◌∷◌, ◌++◌, get_or, Some, None, Ok, Err, Option, sym, refl, ap, ◌∙◌, arith}
+use Rattle.std.proofs.Common.{◌≡◌, ℕ, Bool, true, false, cond, leb, List, [], ◌∷◌, ◌++◌, get_or, Some, None, Ok, Err, Option, Result, sym, refl, ap, ◌∙◌, arith}
 use Rattle.events.specs.declared.event.Action.{Action}
 use Rattle.events.specs.declared.lock.Lock.TheVariants.{Free}
 use Rattle.events.specs.declared.refusal.Refusal.{Refusal}
@@ -8,16 +8,7 @@ use Rattle.events.specs.First.{first_fit}
 use Rattle.trace.specs.declared.state.State.{State}
 use Rattle.trace.specs.Steps.{form_tests, value_tests, lock_tests, room_tests, step_tests, told, or_else, placed}
 
--- where a part gives the reason, the whole does
-pub fit_here : {R : Type 0} (xs ys : List (Bool × R)) (why : R) → first_fit xs ≡ Some why → first_fit (xs ++ ys) ≡ Some why
-fit_here [] ys why h = let z : ◌≡◌ {A = ℕ} 0 1 = cc in absurd (omega arith)
-fit_here {R} (x ∷ xs) ys why h = at x.0 (fit_here xs ys why) h
-  where
-    at : (b : Bool) → (first_fit xs ≡ Some why → first_fit (xs ++ ys) ≡ Some why) → cond b (Some x.1) (first_fit xs) ≡ Some why → cond b (Some x.1) (first_fit (xs ++ ys)) ≡ Some why
-    at true rest k = k
-    at false rest k = rest k
-
--- where it gives none, the rest decides
+-- where a part gives no reason, the rest decides
 pub fit_later : {R : Type 0} (xs ys : List (Bool × R)) → first_fit xs ≡ None → first_fit (xs ++ ys) ≡ first_fit ys
 fit_later [] ys h = refl
 fit_later {R} (x ∷ xs) ys h = at x.0 (fit_later xs ys) h
@@ -61,41 +52,30 @@ abbrev later : State → Bool → Action → List (Bool × Refusal)
 later s spare a = lock_tests (get_or s.locks a.subject Free) a.kind a.thread ++ room_tests s spare a.thread
 
 abbrev weighed : State → Bool → Action → List (Bool × Refusal)
-weighed s spare a = value_tests s a.kind a.subject a.value ++ later s spare a
+weighed s spare a = value_tests s a ++ later s spare a
 
--- a step is refused for the action's form
-pub step_form : (s : State) (spare : Bool) (a : Action) (why : Refusal) → first_fit (form_tests s a) ≡ Some why → first_fit (step_tests s spare a) ≡ Some why
-step_form s spare a why h = fit_here (form_tests s a) (weighed s spare a) why h
-
--- where that is right, for its value; k is the number of its kind
-pub step_value : (s : State) (spare : Bool) (a : Action) (k : ℕ) (why : Refusal) → first_fit (form_tests s a) ≡ None → k ≡ a.kind
-    → Err why ≡ told (first_fit (value_tests s k a.subject a.value))
+-- where form and value are right, a step is refused by its lock or for want of room: d is the action as it is admitted, and r says whether there is room
+pub step_lock : (s : State) (spare : Bool) (a d : Action) (x : Unit {0}) (r : Result (Unit {0}) Refusal) (why : Refusal) → first_fit (form_tests s a) ≡ None → d ≡ a
+    → Ok x ≡ told (first_fit (value_tests s d))
+    → r ≡ told (first_fit (room_tests s spare d.thread))
+    → Err why ≡ or_else (first_fit (lock_tests (get_or s.locks d.subject Free) d.kind d.thread)) r
     → first_fit (step_tests s spare a) ≡ Some why
-step_value s spare a k why form kind h =
-    fit_later (form_tests s a) (weighed s spare a) form
-    ∙ fit_here (value_tests s a.kind a.subject a.value) (later s spare a) why
-    (ap (λ (n : ℕ). first_fit (value_tests s n a.subject a.value)) (sym kind)
-    ∙ told_err (first_fit (value_tests s k a.subject a.value)) why h)
-
--- where form and value are right, by its lock or for want of room
-pub step_lock : (s : State) (spare : Bool) (a : Action) (k : ℕ) (x : Unit {0}) → first_fit (form_tests s a) ≡ None → k ≡ a.kind
-    → Ok x ≡ told (first_fit (value_tests s k a.subject a.value))
-    → or_else (first_fit (lock_tests (get_or s.locks a.subject Free) k a.thread)) (told (first_fit (room_tests s spare a.thread))) ≡ told (first_fit (step_tests s spare a))
-step_lock s spare a k x form kind value =
-    ap (λ (n : ℕ). or_else (first_fit (lock_tests (get_or s.locks a.subject Free) n a.thread)) (told (first_fit (room_tests s spare a.thread)))) kind
-    ∙ else_told (lock_tests (get_or s.locks a.subject Free) a.kind a.thread) (room_tests s spare a.thread)
-    ∙ ap told (sym
-    (fit_later (form_tests s a) (weighed s spare a) form
-    ∙ fit_later (value_tests s a.kind a.subject a.value) (later s spare a)
-    (ap (λ (n : ℕ). first_fit (value_tests s n a.subject a.value)) (sym kind)
-    ∙ told_ok (first_fit (value_tests s k a.subject a.value)) x value)))
+step_lock s spare a d x r why form same value room lock =
+    let locks = lock_tests (get_or s.locks d.subject Free) d.kind d.thread in
+    let rooms = room_tests s spare d.thread in
+    let refused : first_fit (locks ++ rooms) ≡ Some why =
+    told_err (first_fit (locks ++ rooms)) why (lock ∙ ap (or_else (first_fit locks)) room ∙ else_told locks rooms) in
+    ap (λ (b : Action). first_fit (step_tests s spare b)) (sym same)
+    ∙ fit_later (form_tests s d) (weighed s spare d) (ap (λ (b : Action). first_fit (form_tests s b)) same ∙ form)
+    ∙ fit_later (value_tests s d) (later s spare d) (told_ok (first_fit (value_tests s d)) x value)
+    ∙ refused
 
 -- a step that is not refused has a spare row
 pub step_spare : (s : State) (spare : Bool) (a : Action) → first_fit (step_tests s spare a) ≡ None → spare ≡ true
 step_spare s true a h = refl
 step_spare s false a h =
     let room = fit_rest (lock_tests (get_or s.locks a.subject Free) a.kind a.thread) (room_tests s false a.thread)
-    (fit_rest (value_tests s a.kind a.subject a.value) (later s false a) (fit_rest (form_tests s a) (weighed s false a) h)) in
+    (fit_rest (value_tests s a) (later s false a) (fit_rest (form_tests s a) (weighed s false a) h)) in
     let rows = fit_none (leb 255 (get_or s.counts a.thread 0)) ThreadFull (Some RowsFull) room in
     let some = rows.1 in
     let z : ◌≡◌ {A = ℕ} 0 1 = cc in absurd (omega arith)

@@ -17,7 +17,7 @@ use Rattle.trace.specs.Settings.{opening_with}
 use Rattle.trace.specs.Fields.{opening_in}
 use Rattle.trace.specs.Steps.{lock_by, stepped}
 use Rattle.trace.proofs.Bounds.{few_starts}
-use Rattle.trace.proofs.Invariant.{Kept, same_lock_lem, lock_same}
+use Rattle.trace.proofs.Invariant.{Kept}
 
 -- one entry is changed, and the others stay
 set_entry : {A : Type 0} (xs : List A) (i x : ℕ) (d : A) (f : A → A) → x < length xs
@@ -70,12 +70,11 @@ kept_more s rows rows' a k ok more room =
           ∙ ap (λ (ds : List Event). value_now o ds x) (sym more)
           ∙ ap (λ (p : Opening). value_now p (listed rows') x) (sym same);
       locked = λ l h.
-          lock_same _ _
-          (set_entry s.locks a.subject l Free (lock_by a.kind a.thread) (omega arith)
+          set_entry s.locks a.subject l Free (lock_by a.kind a.thread) (omega arith)
           ∙ two_ways (eqb a.kind 3) (eqb a.kind 4) (eqb a.subject l) (Held a.thread) Free (get_or s.locks l Free)
-          ∙ ap (λ (m : Lock). cond (is_of 3 l e) (Held a.thread) (cond (is_of 4 l e) Free m)) (same_lock_lem (get_or s.locks l Free) (lock_now es l) (k.locked l h))
+          ∙ ap (λ (m : Lock). cond (is_of 3 l e) (Held a.thread) (cond (is_of 4 l e) Free m)) (k.locked l h)
           ∙ sym (lock_after_push Free l es e)
-          ∙ ap (λ (ds : List Event). lock_now ds l) (sym more));
+          ∙ ap (λ (ds : List Event). lock_now ds l) (sym more);
       counted = λ t h.
           set_entry s.counts a.thread t 0 suc (omega arith)
           ∙ ap (λ (n : ℕ). cond (eqb a.thread t) (suc n) n) (k.counted t h)

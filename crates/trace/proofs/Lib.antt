@@ -1,6 +1,5 @@
 pub mod Bounds
 pub mod Invariant
-pub mod Changes
 pub mod Fits
 pub mod Agrees
 pub mod Grows

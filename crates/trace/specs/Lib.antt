@@ -1,3 +1,4 @@
+pub mod Subjects
 pub mod Settings
 pub mod Fields
 pub mod Steps

@@ -1,24 +1,19 @@
 -- How a state takes in an action: why it refuses, and what it becomes.
-use Rattle.std.specs.Prelude.{◌≡◌, ℕ, suc, ◌<◌, Bool, cond, not, ◌&&◌, List, [], ◌∷◌, ◌++◌, ℤ, pos, Some, None, Ok, Err, Option, Result, ◌==◌, nat_le, nat_lt, slice_index, slice_index_or, slice_set}
+use Rattle.std.specs.Prelude.{◌≡◌, ℕ, suc, Bool, cond, not, ◌&&◌, List, [], ◌∷◌, ◌++◌, ℤ, pos, Some, None, Ok, Err, Option, Result, ◌==◌, nat_le, nat_lt, slice_index, slice_index_or, slice_set}
 use Rattle.events.specs.declared.event.Action.{Action}
-use Rattle.events.specs.declared.kind.Kind.{Kind}
 use Rattle.events.specs.declared.lock.Lock.{Lock}
 use Rattle.events.specs.declared.lock.Lock.TheVariants.{Free, Held}
 use Rattle.events.specs.declared.refusal.Refusal.{Refusal}
 use Rattle.events.specs.declared.refusal.Refusal.TheVariants as refusal
 use Rattle.events.specs.First.{first_fit}
-use Rattle.events.specs.Kinds.{kind_number}
 use Rattle.events.specs.Noting.{Opening, is_void, subjects, eq_z, free, held_by}
+use Rattle.trace.specs.declared.admitted.Admitted.{Admitted}
 use Rattle.trace.specs.Settings.{opening_with}
 use Rattle.trace.specs.declared.state.State.{State}
 
 -- what the trace was opened with, but for its rows
 abbrev pub opening_but_rows : State → Opening
 opening_but_rows s = opening_with s.setting 0
-
--- no trace has more labels, variables or locks for a kind
-abbrev pub most_subjects : ℕ → ℕ
-most_subjects k = cond (nat_lt k 3) 32 16
 
 -- why an action is refused for its form: numbers 9 to 13
 abbrev pub form_tests : State → Action → List (Bool × Refusal)
@@ -29,9 +24,12 @@ form_tests s a =
     ∷ (nat_le (subjects (opening_but_rows s) a.kind) a.subject, refusal.Subject)
     ∷ []
 
--- why the value of a kind's event at a subject is refused: numbers 14 and 15
-abbrev pub value_tests : State → ℕ → ℕ → ℤ → List (Bool × Refusal)
-value_tests s k x v = (nat_lt 2 k && not (eq_z v (pos 0)), refusal.LockValue) ∷ (k == 1 && not (eq_z v (slice_index_or s.values x (pos 0))), refusal.ReadValue) ∷ []
+-- why an action is refused for its value: numbers 14 and 15
+abbrev pub value_tests : State → Action → List (Bool × Refusal)
+value_tests s a =
+    (nat_lt 2 a.kind && not (eq_z a.value (pos 0)), refusal.LockValue)
+    ∷ (a.kind == 1 && not (eq_z a.value (slice_index_or s.values a.subject (pos 0))), refusal.ReadValue)
+    ∷ []
 
 -- why a lock refuses a thread's event of kind k: numbers 16 and 17
 abbrev pub lock_tests : Lock → ℕ → ℕ → List (Bool × Refusal)
@@ -45,7 +43,7 @@ room_tests s spare t = (nat_le 255 (slice_index s.counts t), refusal.ThreadFull)
 abbrev pub step_tests : State → Bool → Action → List (Bool × Refusal)
 step_tests s spare a =
     form_tests s a
-    ++ (value_tests s a.kind a.subject a.value
+    ++ (value_tests s a
     ++ (lock_tests (slice_index_or s.locks a.subject Free) a.kind a.thread
     ++ room_tests s spare a.thread))
 
@@ -59,10 +57,10 @@ abbrev pub or_else : Option Refusal → Result (Unit {0}) Refusal → Result (Un
 or_else (Some why) later = Err why
 or_else None later = later
 
--- the kind of an action that is right in form, or why it is refused
-abbrev pub Admitted : State → Action → Result Kind Refusal → Type 0
-Admitted s a (Ok k) = (first_fit (form_tests s a) ≡ None) × (a.thread < 8) × (a.subject < most_subjects (kind_number k)) × (kind_number k ≡ a.kind)
-Admitted s a (Err why) = first_fit (form_tests s a) ≡ Some why
+-- the action where it is right in form, or why it is refused
+abbrev pub Admits : State → Action → Result Admitted Refusal → Type 0
+Admits s a (Ok d) = (first_fit (form_tests s a) ≡ None) × (d.action ≡ a)
+Admits s a (Err why) = first_fit (form_tests s a) ≡ Some why
 
 -- the place of an event that is not refused
 abbrev pub placed : Option Refusal → ℕ → Result ℕ Refusal
@@ -88,12 +86,12 @@ changed_to s vs ls =
       counts = s.counts;
     }
 
--- the state after an action of kind k, but for the count
-abbrev pub changed : State → ℕ → Action → State
-changed s k a =
+-- the state after an action, but for the count
+abbrev pub changed : State → Action → State
+changed s a =
     changed_to s
-    (slice_set s.values a.subject (cond (k == 2) a.value (slice_index_or s.values a.subject (pos 0))))
-    (slice_set s.locks a.subject (lock_by k a.thread (slice_index_or s.locks a.subject Free)))
+    (slice_set s.values a.subject (cond (a.kind == 2) a.value (slice_index_or s.values a.subject (pos 0))))
+    (slice_set s.locks a.subject (lock_by a.kind a.thread (slice_index_or s.locks a.subject Free)))
 
 -- the place of a thread's next event
 abbrev pub next_place : State → ℕ → ℕ
@@ -109,4 +107,4 @@ counted s t =
     }
 
 abbrev pub stepped : State → Action → State
-stepped s a = counted (changed s a.kind a) a.thread
+stepped s a = counted (changed s a) a.thread

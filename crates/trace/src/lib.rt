@@ -7,6 +7,7 @@ ghost use Rattle.events.specs.Accepted.{accepted};
 ghost use Rattle.rows.specs.Listed.{listed};
 ghost use Rattle.trace.specs.Fields.{opening_in, Valued, Locked, Counted};
 
+pub mod admitted;
 pub mod locks;
 pub mod noting;
 pub mod opening;
@@ -16,6 +17,7 @@ pub mod setting;
 pub mod state;
 pub mod steps;
 
+pub use admitted::Admitted;
 use events::Event;
 pub use place::Place;
 use rows::Rows;

@@ -1,21 +1,20 @@
 // A state takes in an action, or refuses it by the first reason that fits.
 ghost use Rattle.std.specs.Prelude.{◌≡◌, ◌<◌, slice_index, slice_index_or};
 ghost use Rattle.events.specs.First.{first_fit};
-ghost use Rattle.events.specs.Kinds.{kind_number};
 ghost use Rattle.events.specs.declared.lock.Lock.TheVariants.{Free};
-ghost use Rattle.trace.specs.Steps.{most_subjects, value_tests, lock_tests, room_tests, step_tests, told, or_else, Admitted, placed, after, changed, counted, next_place, stepped};
+ghost use Rattle.trace.specs.Steps.{value_tests, lock_tests, room_tests, step_tests, told, or_else, Admits, placed, after, changed, counted, next_place, stepped};
 
+use crate::admitted::Admitted;
 use crate::locks::turn;
 use crate::state::State;
 use events::{Action, Kind, Refusal};
 
 impl State {
     // Whether there is room for one more event of the thread, where a row is spare or none is.
-    fn room(&self, thread: u8, spare: bool) -> Result<(), Refusal>
-        requires { thread < 8 }
-        ensures { result ≡ told (first_fit (room_tests self.now spare thread)) }
+    fn room(&self, admitted: Admitted, spare: bool) -> Result<(), Refusal>
+        ensures { result ≡ told (first_fit (room_tests self.now spare admitted.action.thread)) }
     {
-        if self.counts[thread as usize] == 255 {
+        if self.counts[admitted.action.thread as usize] == 255 {
             return Err(Refusal::ThreadFull);
         }
         if !spare {
@@ -24,9 +23,9 @@ impl State {
         Ok(())
     }
 
-    // The action's kind, where the action is right in form.
-    fn admit(&self, action: Action) -> Result<Kind, Refusal>
-        ensures { Admitted self.now action result }
+    // The action, where it is right in form.
+    fn admit(&self, action: Action) -> Result<Admitted, Refusal>
+        ensures { Admits self.now action result }
     {
         let Ok(setting) = &self.setting else {
             return Err(Refusal::Void);
@@ -38,15 +37,15 @@ impl State {
         if action.subject as usize >= setting.subjects(kind) {
             return Err(Refusal::Subject);
         }
-        Ok(kind)
+        Ok(Admitted { kind, action })
     }
 
     // Whether the value is right: 0 at a lock's event, and at a read the variable's own.
-    fn weigh(&self, kind: Kind, action: Action) -> Result<(), Refusal>
-        requires { action.subject < most_subjects (kind_number kind) }
-        ensures { result ≡ told (first_fit (value_tests self.now (kind_number kind) action.subject action.value)) }
+    fn weigh(&self, admitted: Admitted) -> Result<(), Refusal>
+        ensures { result ≡ told (first_fit (value_tests self.now admitted.action)) }
     {
-        match kind {
+        let action = admitted.action;
+        match admitted.kind {
             Kind::Acquire | Kind::Release if action.value != 0 => Err(Refusal::LockValue),
             Kind::Read if action.value != self.values[action.subject as usize] => Err(
                 Refusal::ReadValue,
@@ -56,16 +55,11 @@ impl State {
     }
 
     // What the action does to its variable or lock, where it may and there is room.
-    fn change(
-        &mut self,
-        kind: Kind,
-        action: Action,
-        room: Result<(), Refusal>,
-    ) -> Result<(), Refusal>
-        requires { action.subject < most_subjects (kind_number kind) }
-        ensures says { result ≡ or_else (first_fit (lock_tests (slice_index_or self.old.locks action.subject Free) (kind_number kind) action.thread)) room }
-        ensures next { self.new ≡ after result (changed self.old (kind_number kind) action) self.old }
+    fn change(&mut self, admitted: Admitted, room: Result<(), Refusal>) -> Result<(), Refusal>
+        ensures says { result ≡ or_else (first_fit (lock_tests (slice_index_or self.old.locks admitted.action.subject Free) admitted.action.kind admitted.action.thread)) room }
+        ensures next { self.new ≡ after result (changed self.old admitted.action) self.old }
     {
+        let Admitted { kind, action } = admitted;
         match kind {
             Kind::Acquire | Kind::Release => {
                 turn(
@@ -85,12 +79,12 @@ impl State {
     }
 
     // Counts one more event of the thread, and gives its place.
-    fn count(&mut self, thread: u8) -> u8
-        requires thread { thread < 8 }
-        requires room { slice_index self.old.counts thread < 255 }
-        ensures place { result ≡ next_place self.old thread }
-        ensures next { self.new ≡ counted self.old thread }
+    fn count(&mut self, admitted: Admitted) -> u8
+        requires { slice_index self.old.counts admitted.action.thread < 255 }
+        ensures place { result ≡ next_place self.old admitted.action.thread }
+        ensures next { self.new ≡ counted self.old admitted.action.thread }
     {
+        let thread = admitted.action.thread;
         let place = self.counts[thread as usize] + 1;
         self.counts[thread as usize] = place;
         place
@@ -101,10 +95,10 @@ impl State {
         ensures says { result ≡ placed (first_fit (step_tests self.old spare action)) (next_place self.old action.thread) }
         ensures next { self.new ≡ after result (stepped self.old action) self.old }
     {
-        let kind = self.admit(action)?;
-        self.weigh(kind, action)?;
-        let room = self.room(action.thread, spare);
-        self.change(kind, action, room)?;
-        Ok(self.count(action.thread))
+        let admitted = self.admit(action)?;
+        self.weigh(admitted)?;
+        let room = self.room(admitted, spare);
+        self.change(admitted, room)?;
+        Ok(self.count(admitted))
     }
 }
