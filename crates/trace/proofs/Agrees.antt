@@ -4,21 +4,18 @@ use Rattle.std.proofs.lemmas.List.{length-take-le}
 use Rattle.std.proofs.lemmas.Bool.{eqb-true, leb-false, false≢true}
 use Rattle.std.proofs.lemmas.Bool.Decides.{nat_tests}
 use Rattle.events.specs.declared.event.Action.{Action}
-use Rattle.events.specs.declared.event.Event.{Event}
 use Rattle.events.specs.declared.lock.Lock.{Lock}
 use Rattle.events.specs.declared.lock.Lock.TheVariants.{Free}
 use Rattle.events.specs.declared.refusal.OpenRefusal.{OpenRefusal}
 use Rattle.events.specs.First.{first_fit}
-use Rattle.events.specs.Noting.{Opening, is_void, subjects, eq_z, free, held_by, lock_now, note_tests, refused}
-use Rattle.rows.specs.declared.list.Rows.{Rows}
-use Rattle.rows.specs.Listed.{lent, count, listed, roomy}
+use Rattle.events.specs.Noting.{Opening, is_void, subjects, eq_z, free, held_by, lock_now, note_tests}
+use Rattle.rows.specs.Listed.{lent, count, roomy}
 use Rattle.trace.specs.declared.setting.Setting.{Setting}
-use Rattle.trace.specs.declared.state.State.{State}
 use Rattle.trace.specs.Settings.{opening_with}
-use Rattle.trace.specs.Fields.{opening_in}
+use Rattle.trace.specs.declared.Trace.{Trace}
+use Rattle.trace.specs.Meaning.{opening_of, noted_of, refused_by}
 use Rattle.trace.specs.Steps.{opening_but_rows, step_tests}
 use Rattle.trace.proofs.Bounds.{few_threads, same_void, same_threads, same_starts}
-use Rattle.trace.proofs.Invariant.{Kept}
 
 -- Two lists of reasons are alike where their tests agree, each wherever those ahead of it fail.
 data Alike {R : Type 0} : List (Bool × R) → List (Bool × R) → Type 0 where
@@ -53,11 +50,12 @@ acquire_subjects o k h = ap (subjects o) (eqb-true k 3 h)
 release_subjects : (o : Opening) (k : ℕ) → eqb k 4 ≡ true → subjects o k ≡ 16
 release_subjects o k h = ap (subjects o) (eqb-true k 4 h)
 
-pub refused_is : (s : State) (rows : Rows Event) (a : Action) → Kept s rows
-    → refused (opening_in s rows) (listed rows) a ≡ first_fit (step_tests s (roomy rows) a)
-refused_is s rows a k =
-    let o = opening_in s rows in
-    let es = listed rows in
+pub refused_is : (t : Trace) (a : Action) → refused_by t a ≡ first_fit (step_tests t.state (roomy t.rows) a)
+refused_is t a =
+    let s = t.state in
+    let rows = t.rows in
+    let o = opening_of t in
+    let es = noted_of t in
     let all = length (lent rows) in
     let many : subjects o a.kind ≡ subjects (opening_but_rows s) a.kind = ap (λ (xs : List ℤ). cond (eqb a.kind 0) 32 (cond (ltb a.kind 3) (length xs) 16)) (same_starts s.setting all 0) in
     alike_first (note_tests o es a) (step_tests s (roomy rows) a)
@@ -68,15 +66,15 @@ refused_is s rows a k =
     (λ subject.
     let below : a.subject < subjects o a.kind = leb-false (subjects o a.kind) a.subject subject in
     let mine : a.thread < 8 = omega (arith, leb-false o.threads a.thread thread, few_threads s.setting all) in
-    let lock : a.subject < 16 → lock_now es a.subject ≡ get_or s.locks a.subject Free = λ h. sym (k.locked a.subject h) in
+    let lock : a.subject < 16 → lock_now es a.subject ≡ get_or s.locks a.subject Free = λ h. sym (t.locks a.subject h) in
     agree refl
     (λ zero. agree
-    (both (eqb a.kind 1) _ _ (λ e. ap (λ (v : ℤ). not (eq_z a.value v)) (sym (k.valued a.subject (omega (arith, read_subjects o a.kind e, below))))))
+    (both (eqb a.kind 1) _ _ (λ e. ap (λ (v : ℤ). not (eq_z a.value v)) (sym (t.values a.subject (omega (arith, read_subjects o a.kind e, below))))))
     (λ read. agree
     (both (eqb a.kind 3) _ _ (λ e. ap (λ (l : Lock). not (free l)) (lock (omega (arith, acquire_subjects o a.kind e, below)))))
     (λ held. agree
     (both (eqb a.kind 4) _ _ (λ e. ap (λ (l : Lock). not (held_by a.thread l)) (lock (omega (arith, release_subjects o a.kind e, below)))))
-    (λ holder. agree (ap (leb 255) (sym (k.counted a.thread mine)))
+    (λ holder. agree (ap (leb 255) (sym (t.counts a.thread mine)))
     (λ full. agree
     (rows_are o.room (length es) (count rows) (length (lent rows)) (room_is s.setting all opened) (length-take-le (count rows) (lent rows) rows.within))
     (λ none. done)))))))))))

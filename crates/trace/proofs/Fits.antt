@@ -1,5 +1,6 @@
 -- The first reason that fits, over parts of a list of reasons.
-use Rattle.std.proofs.Common.{◌≡◌, ℕ, Bool, true, false, cond, leb, List, [], ◌∷◌, ◌++◌, get_or, Some, None, Ok, Err, Option, Result, sym, refl, ap, ◌∙◌, arith}
+use Rattle.std.proofs.Common.{◌≡◌, ℕ, Bool, true, false, cond, leb, List, [], ◌∷◌, ◌++◌, get_or, Some, None, Ok, Err, Option, Result, sym, refl, ap, ◌∙◌}
+use Rattle.std.proofs.lemmas.Option.{none-some}
 use Rattle.events.specs.declared.event.Action.{Action}
 use Rattle.events.specs.declared.lock.Lock.TheVariants.{Free}
 use Rattle.events.specs.declared.refusal.Refusal.{Refusal}
@@ -14,7 +15,7 @@ fit_later [] ys h = refl
 fit_later {R} (x ∷ xs) ys h = at x.0 (fit_later xs ys) h
   where
     at : (b : Bool) → (first_fit xs ≡ None → first_fit (xs ++ ys) ≡ first_fit ys) → cond b (Some x.1) (first_fit xs) ≡ None → cond b (Some x.1) (first_fit (xs ++ ys)) ≡ first_fit ys
-    at true rest k = let z : ◌≡◌ {A = ℕ} 0 1 = cc in absurd (omega arith)
+    at true rest k = absurd (none-some x.1 (sym k))
     at false rest k = rest k
 
 -- where nothing fits, nothing of the rest does, and the first test fails
@@ -23,19 +24,19 @@ fit_rest [] ys h = h
 fit_rest {R} (x ∷ xs) ys h = at x.0 (fit_rest xs ys) h
   where
     at : (b : Bool) → (first_fit (xs ++ ys) ≡ None → first_fit ys ≡ None) → cond b (Some x.1) (first_fit (xs ++ ys)) ≡ None → first_fit ys ≡ None
-    at true rest k = let z : ◌≡◌ {A = ℕ} 0 1 = cc in absurd (omega arith)
+    at true rest k = absurd (none-some x.1 (sym k))
     at false rest k = rest k
 
 pub fit_none : {R : Type 0} (b : Bool) (r : R) (o : Option R) → cond b (Some r) o ≡ None → (b ≡ false) × (o ≡ None)
-fit_none true r o h = let z : ◌≡◌ {A = ℕ} 0 1 = cc in absurd (omega arith)
+fit_none true r o h = absurd (none-some r (sym h))
 fit_none false r o h = (refl, h)
 
 pub told_err : (o : Option Refusal) (why : Refusal) → Err why ≡ told o → o ≡ Some why
 told_err (Some w) why h = cc
-told_err None why h = let z : ◌≡◌ {A = ℕ} 0 1 = cc in absurd (omega arith)
+told_err None why h = cc
 
 pub told_ok : (o : Option Refusal) (x : Unit {0}) → Ok x ≡ told o → o ≡ None
-told_ok (Some w) x h = let z : ◌≡◌ {A = ℕ} 0 1 = cc in absurd (omega arith)
+told_ok (Some w) x h = cc
 told_ok None x h = refl
 
 -- a reason, or else a later check's
@@ -77,13 +78,12 @@ step_spare s false a h =
     let room = fit_rest (lock_tests (get_or s.locks a.subject Free) a.kind a.thread) (room_tests s false a.thread)
     (fit_rest (value_tests s a) (later s false a) (fit_rest (form_tests s a) (weighed s false a) h)) in
     let rows = fit_none (leb 255 (get_or s.counts a.thread 0)) ThreadFull (Some RowsFull) room in
-    let some = rows.1 in
-    let z : ◌≡◌ {A = ℕ} 0 1 = cc in absurd (omega arith)
+    absurd (none-some RowsFull (sym rows.1))
 
 pub placed_err : (o : Option Refusal) (n : ℕ) (why : Refusal) → Err why ≡ placed o n → o ≡ Some why
 placed_err (Some w) n why h = cc
-placed_err None n why h = let z : ◌≡◌ {A = ℕ} 0 1 = cc in absurd (omega arith)
+placed_err None n why h = cc
 
 pub placed_ok : (o : Option Refusal) (n m : ℕ) → Ok m ≡ placed o n → (o ≡ None) × (m ≡ n)
-placed_ok (Some w) n m h = let z : ◌≡◌ {A = ℕ} 0 1 = cc in absurd (omega arith)
+placed_ok (Some w) n m h = (cc, cc)
 placed_ok None n m h = (refl, cc)

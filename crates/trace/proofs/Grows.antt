@@ -7,12 +7,13 @@ use Rattle.events.specs.declared.event.Event.{Event}
 use Rattle.events.specs.declared.lock.Lock.{Lock}
 use Rattle.events.specs.declared.lock.Lock.TheVariants.{Free, Held}
 use Rattle.events.specs.Accepted.{accepted}
-use Rattle.events.specs.Noting.{Opening, is_of, value_now, lock_now, count_of, refused, noting}
+use Rattle.events.specs.Noting.{Opening, is_of, value_now, lock_now, count_of, noting}
 use Rattle.events.proofs.Pushes.{latest_push, lock_after_push, count_of_push}
 use Rattle.events.proofs.Accepted.{accepted_push}
 use Rattle.rows.specs.declared.list.Rows.{Rows}
 use Rattle.rows.specs.Listed.{lent, listed}
-use Rattle.trace.specs.declared.state.State.{State}
+use Rattle.trace.specs.declared.Trace.{Trace}
+use Rattle.trace.specs.Meaning.{opening_of, noted_of, rows_of, refused_by}
 use Rattle.trace.specs.Settings.{opening_with}
 use Rattle.trace.specs.Fields.{opening_in}
 use Rattle.trace.specs.Steps.{lock_by, stepped}
@@ -46,18 +47,18 @@ two_ways true c false x y z = one_way c false y z
 two_ways false c true x y z = one_way c true y z
 two_ways false c false x y z = one_way c false y z
 
-pub kept_more : (s : State) (rows rows' : Rows Event) (a : Action) → Kept s rows → refused (opening_in s rows) (listed rows) a ≡ None
-    → listed rows' ≡ listed rows ++ noting (listed rows) a ∷ [] → length (lent rows') ≡ length (lent rows)
-    → Kept (stepped s a) rows'
-kept_more s rows rows' a k ok more room =
-    let nv = k.values_size in
-    let nl = k.locks_size in
-    let nc = k.counts_size in
-    let es = listed rows in
+pub kept_more : (t : Trace) (rows : Rows Event) (a : Action) → refused_by t a ≡ None → listed rows ≡ noted_of t ++ noting (noted_of t) a ∷ []
+    → length (lent rows) ≡ length (rows_of t) → Kept (stepped t.state a) rows
+kept_more t rows a ok more room =
+    let s = t.state in
+    let es = noted_of t in
     let e = noting es a in
-    let o = opening_in s rows in
-    let same : opening_in (stepped s a) rows' ≡ o = ap (opening_with s.setting) room in
-    let few = few_starts s.setting (length (lent rows')) in
+    let o = opening_of t in
+    let same : opening_in (stepped s a) rows ≡ o = ap (opening_with s.setting) room in
+    let few = few_starts s.setting (length (lent rows)) in
+    let nv = t.sizes.0 in
+    let nl = t.sizes.1 in
+    let nc = t.sizes.2 in
     record {
       values_size = length-set s.values a.subject _ ∙ nv;
       locks_size = length-set s.locks a.subject _ ∙ nl;
@@ -65,23 +66,23 @@ kept_more s rows rows' a k ok more room =
       valued = λ x h.
           set_entry s.values a.subject x (pos 0) (λ (v : ℤ). cond (eqb a.kind 2) a.value v) (omega arith)
           ∙ one_way (eqb a.kind 2) (eqb a.subject x) a.value (get_or s.values x (pos 0))
-          ∙ ap (λ (v : ℤ). cond (is_of 2 x e) a.value v) (k.valued x (subst (λ (p : Opening). x < length p.starts) same h))
+          ∙ ap (λ (v : ℤ). cond (is_of 2 x e) a.value v) (t.values x (subst (λ (p : Opening). x < length p.starts) same h))
           ∙ sym (latest_push (get_or o.starts x (pos 0)) x es e)
           ∙ ap (λ (ds : List Event). value_now o ds x) (sym more)
-          ∙ ap (λ (p : Opening). value_now p (listed rows') x) (sym same);
+          ∙ ap (λ (p : Opening). value_now p (listed rows) x) (sym same);
       locked = λ l h.
           set_entry s.locks a.subject l Free (lock_by a.kind a.thread) (omega arith)
           ∙ two_ways (eqb a.kind 3) (eqb a.kind 4) (eqb a.subject l) (Held a.thread) Free (get_or s.locks l Free)
-          ∙ ap (λ (m : Lock). cond (is_of 3 l e) (Held a.thread) (cond (is_of 4 l e) Free m)) (k.locked l h)
+          ∙ ap (λ (m : Lock). cond (is_of 3 l e) (Held a.thread) (cond (is_of 4 l e) Free m)) (t.locks l h)
           ∙ sym (lock_after_push Free l es e)
           ∙ ap (λ (ds : List Event). lock_now ds l) (sym more);
-      counted = λ t h.
-          set_entry s.counts a.thread t 0 suc (omega arith)
-          ∙ ap (λ (n : ℕ). cond (eqb a.thread t) (suc n) n) (k.counted t h)
-          ∙ sym (count_of_push t es e)
-          ∙ ap (count_of t) (sym more);
+      counted = λ i h.
+          set_entry s.counts a.thread i 0 suc (omega arith)
+          ∙ ap (λ (n : ℕ). cond (eqb a.thread i) (suc n) n) (t.counts i h)
+          ∙ sym (count_of_push i es e)
+          ∙ ap (count_of i) (sym more);
       accepted_all =
-          ap (λ (p : Opening). accepted p (listed rows')) same
+          ap (λ (p : Opening). accepted p (listed rows)) same
           ∙ ap (accepted o) more
-          ∙ accepted_push o [] es a k.accepted_all ok;
+          ∙ accepted_push o [] es a t.noted ok;
     }

@@ -1,6 +1,7 @@
 -- What a note gives, from what its state and its rows give.
 use Rattle.std.proofs.Common.{◌≡◌, ℕ, suc, ◌<◌, Bool, true, cond, ltb, leb, [], ◌∷◌, ◌++◌, length, set, Some, None, Ok, Err, Option, sym, ap, ◌∙◌, subst, arith}
 use Rattle.std.proofs.lemmas.Bool.{leb-false, cond-true}
+use Rattle.std.proofs.lemmas.Option.{none-some}
 use Rattle.std.proofs.lemmas.List.{length-set, length-take-le}
 use Rattle.events.specs.declared.event.Action.{Action}
 use Rattle.events.specs.declared.event.Event.{Event}
@@ -24,20 +25,8 @@ use Rattle.trace.proofs.Same.{same_trace}
 use Rattle.trace.proofs.Agrees.{refused_is}
 use Rattle.trace.proofs.Fits.{fit_none, step_spare, placed_err, placed_ok}
 
-pub kept_of : (t : Trace) → Kept t.state t.rows
-kept_of t =
-    record {
-      values_size = t.sizes.0;
-      locks_size = t.sizes.1;
-      counts_size = t.sizes.2;
-      valued = t.values;
-      locked = t.locks;
-      counted = t.counts;
-      accepted_all = t.noted;
-    }
-
 refused_by_lem : (t : Trace) (a : Action) (spare : Bool) → spare ≡ roomy t.rows → refused_by t a ≡ first_fit (step_tests t.state spare a)
-refused_by_lem t a spare e = refused_is t.state t.rows a (kept_of t) ∙ ap (λ (b : Bool). first_fit (step_tests t.state b a)) (sym e)
+refused_by_lem t a spare e = refused_is t a ∙ ap (λ (b : Bool). first_fit (step_tests t.state b a)) (sym e)
 
 note_refused : (t : Trace) (a : Action) (spare : Bool) (why : Refusal) → spare ≡ roomy t.rows
     → Err why ≡ placed (first_fit (step_tests t.state spare a)) (next_place t.state a.thread) → refused_by t a ≡ Some why
@@ -51,7 +40,6 @@ record Taken (t : Trace) (a : Action) (place : ℕ) : Type 0 where
 note_taken : (t : Trace) (a : Action) (spare : Bool) (place : ℕ) → spare ≡ roomy t.rows
     → Ok place ≡ placed (first_fit (step_tests t.state spare a)) (next_place t.state a.thread) → Taken t a place
 note_taken t a spare place e h =
-    let k = kept_of t in
     let p = placed_ok (first_fit (step_tests t.state spare a)) (next_place t.state a.thread) place h in
     let r : refused_by t a ≡ None = refused_by_lem t a spare e ∙ p.0 in
     let void = fit_none (is_void (opening_of t)) refusal.Void _ r in
@@ -60,15 +48,15 @@ note_taken t a spare place e h =
     record {
       not_refused_lem = r;
       row_left = sym e ∙ step_spare t.state spare a p.0;
-      place_is = p.1 ∙ ap suc (k.counted a.thread mine);
+      place_is = p.1 ∙ ap suc (t.counts a.thread mine);
     }
 
 pub left_all : (o : Option Refusal) (why : Refusal) (t u : Trace) → o ≡ Some why → u.state ≡ t.state → u.rows ≡ t.rows → KeptBy o t u
 left_all (Some w) why t u h s r = same_trace t u s r
-left_all None why t u h s r = let z : ◌≡◌ {A = ℕ} 0 1 = cc in absurd (omega arith)
+left_all None why t u h s r = absurd (none-some why h)
 
 pub left_none : (o : Option Refusal) (t u : Trace) → o ≡ None → KeptBy o t u
-left_none (Some w) t u h = let z : ◌≡◌ {A = ℕ} 0 1 = cc in absurd (omega arith)
+left_none (Some w) t u h = absurd (none-some w (sym h))
 left_none None t u h = tt
 
 -- what an accepted action gives
@@ -87,7 +75,6 @@ note_grown : (t : Trace) (a : Action) (spare : Bool) (place : ℕ) (s : State) (
     → listed rows ≡ cond (roomy t.rows) (listed t.rows ++ event_at place a ∷ []) (listed t.rows)
     → Grown t a place s rows
 note_grown t a spare place s rows e h next lents lists =
-    let k = kept_of t in
     let es = noted_of t in
     let p = note_taken t a spare place e h in
     let row : event_at place a ≡ noting es a = ap (λ (n : ℕ). event_at n a) p.place_is in
@@ -100,11 +87,9 @@ note_grown t a spare place s rows e h next lents lists =
       not_refused_lem = p.not_refused_lem;
       says = ap Ok p.place_is ∙ sym (ap (λ (o : Option Refusal). answer o es a) p.not_refused_lem);
       noted_is = more ∙ sym (ap (λ (o : Option Refusal). extended o es a) p.not_refused_lem);
-      opening_is =
-          ap (λ (q : State). opening_in q rows) next
-          ∙ ap (opening_with t.state.setting) room;
+      opening_is = ap (λ (q : State). opening_in q rows) next ∙ ap (opening_with t.state.setting) room;
       rows_are = whole ∙ sym (ap (λ (o : Option Refusal). rows_after o t a) p.not_refused_lem);
-      keeps = subst (λ (q : State). Kept q rows) (sym next) (kept_more t.state t.rows rows a k p.not_refused_lem more room);
+      keeps = subst (λ (q : State). Kept q rows) (sym next) (kept_more t rows a p.not_refused_lem more room);
     }
 
 spare_is : (t : Trace) (len all : ℕ) → len ≡ count t.rows → all ≡ length (lent t.rows) → ltb len all ≡ roomy t.rows

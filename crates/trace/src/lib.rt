@@ -17,11 +17,9 @@ pub mod setting;
 pub mod state;
 pub mod steps;
 
-pub use admitted::Admitted;
 use events::Event;
 pub use place::Place;
 use rows::Rows;
-pub use setting::Setting;
 pub use state::State;
 
 // The state is what the opening and the noted events make it, and each event was accepted after
