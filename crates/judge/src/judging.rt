@@ -53,11 +53,7 @@ pub fn judge<M: Monitor>(
         monitor,
         threads: trace.threads(),
     };
-    let explored = explore(&machine, rows);
-    if !explored.complete {
-        return Err(JudgeRefusal::Pairs);
-    }
-    let pairs = explored.len;
+    let pairs = explore(&machine, rows).map_err(|_| JudgeRefusal::Pairs)?;
     let verdict = decide(&rows[..pairs], monitor, events.len(), threads);
     Ok(Judgement { verdict, pairs })
 }
