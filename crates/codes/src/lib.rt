@@ -1,5 +1,6 @@
 // Bits of codes. A code is an unsigned 64-bit number that stands for a set of numbers below 64: bit
-// s is set where s is of the set. Codes stay plain numbers, since rows that the caller lends keep them.
+// s is set where s is of the set.
+// Stays a plain number: rows that the caller lends keep codes.
 #![tactic(auto)]
 
 ghost use Rattle.std.specs.Prelude.{◌≡◌};

@@ -3,7 +3,8 @@ ghost use Rattle.std.specs.Prelude.{◌≡◌};
 ghost use Rattle.events.specs.Events.{action_of, event_at};
 
 // What a thread does: an event but for its place. The subject is a label, a variable or a lock, as
-// the kind says. The kind stays a number, since a recorded one that is no kind's has to be answered.
+// the kind says.
+// Stays a number: the kind, since a recorded one that is no kind's has to be answered by a refusal.
 #[derive(Clone, Copy, Debug, PartialEq, Eq)]
 pub struct Action {
     pub thread: u8,
@@ -13,7 +14,8 @@ pub struct Action {
 }
 
 // An action that a trace has accepted. The place is its number among its thread's accepted events,
-// from 1. The fields stay beside it and not in an Action, so that both are read by the same names.
+// from 1.
+// Stays flat, and holds no Action: then the fields of both are read by the same short names.
 #[derive(Clone, Copy, Debug, PartialEq, Eq)]
 pub struct Event {
     pub thread: u8,
@@ -55,6 +57,7 @@ impl Event {
     };
 
     // What the event's thread did.
+    // Stays a method: `event.action()` is plainer than `Action::from(event)`.
     pub fn action(&self) -> Action
         ensures { result ≡ action_of self.now }
     {

@@ -41,6 +41,7 @@ pub enum Refusal {
     RowsFull = 19,
 }
 
+// Stays a method, as at every fault: `why.number()` is plainer than `u8::from(why)`.
 impl OpenRefusal {
     pub fn number(self) -> u8
         ensures { result ≡ open_number self }
@@ -49,6 +50,7 @@ impl OpenRefusal {
     }
 }
 
+// Stays a method, as at every fault: `why.number()` is plainer than `u8::from(why)`.
 impl Refusal {
     pub fn number(self) -> u8
         ensures { result ≡ note_number self }

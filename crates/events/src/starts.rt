@@ -4,6 +4,7 @@ ghost use Rattle.std.specs.Prelude.{◌≡◌, ◌<◌, ◌≤◌, ℤ, List, []
 use std::marker::Model;
 
 // At most 32 values, seen as their list. The table holds 0 beyond them.
+// Stays a table with a count: calls on a trace take no heap.
 #[derive(Clone, Copy, Debug, PartialEq, Eq)]
 pub struct Starts {
     values: [i32; 32],

@@ -13,11 +13,10 @@ pub struct Place {
     pub place: u8,
 }
 
-impl Place {
-    // Where the event stands.
-    fn of(event: &Event) -> Place
-        ensures { result ≡ place_of event.now }
-    {
+impl From<Event> for Place {
+    ghost from_gives = { λ event place. place ≡ place_of event };
+
+    fn from(event: Event) -> Place {
         Place {
             thread: event.thread,
             place: event.place,
@@ -33,6 +32,6 @@ impl Keyed<Place> for Event {
     ghost decides = { decides_place };
 
     fn matches(&self, key: Place) -> bool {
-        Place::of(self) == key
+        Place::from(*self) == key
     }
 }

@@ -10,6 +10,7 @@ use events::{Event, OpenRefusal};
 
 impl<'a> Trace<'a> {
     // Why the trace is void, if it is.
+    // Stays an Option: this tells the reason to those who ask, and refuses nothing.
     pub fn void(&self) -> Option<OpenRefusal>
         ensures { result ≡ (opening_of self.now).void }
     {
@@ -17,6 +18,7 @@ impl<'a> Trace<'a> {
     }
 
     // The number of that reason, or 0.
+    // Stays a number: users ask for the reason by a call that answers numbers.
     pub fn number(&self) -> u8
         ensures { result ≡ void_number (opening_of self.now).void }
     {
