@@ -33,7 +33,7 @@ impl Tables {
         let mut led = self.groups[object].starting as u32;
         let mut taken = 0u32;
         for (t, &done) in cut.iter().enumerate() {
-            let tally = self.tallies[cell(t as u8, done, object)];
+            let tally = &self.tallies[cell(t as u8, done, object)];
             led += tally.led as u32;
             taken += tally.taken as u32;
         }
@@ -64,7 +64,7 @@ impl Tables {
         if done >= self.counts[thread as usize] {
             return Err(NoNext::Done);
         }
-        let standing = self.standings[slot(thread, done + 1)];
+        let standing = &self.standings[slot(thread, done + 1)];
         if !supplied(cut, standing.source) {
             return Err(NoNext::Missing);
         }
