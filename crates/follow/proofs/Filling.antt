@@ -484,7 +484,8 @@ module _ (es : List Event) (fit : Fit es) (n : ℕ) (near : n < length es) where
 
   -- One more event.
   more : (v : Tables) (r : Role) → RoleOf e.kind e.subject r → Filled es n v → Filled es (suc n) (entered v e r)
-  more v (Take b) role f =
+  more v (Take o) role f =
+      let b : ℕ = o.number in
       let source : Option (ℕ × ℕ) = (groups_in v b).latest in
       let from = source_take b v role.1 f.known in
       let w : Tables = taking v e b source in
@@ -499,7 +500,8 @@ module _ (es : List Event) (fit : Fit es) (n : ℕ) (near : n < length es) where
             (latest_on k s _ (λ i. take_lead k s b s b' (subst (λ z. Takes k z b) i.subject (subst (λ z. Takes z e.subject b) i.kind role.1)) h) (f.known k s b' h));
         counted = record { starts = counted.starts; led = counted.led; taken = counted.taken };
       }
-  more v (Lead b) role f =
+  more v (Lead o) role f =
+      let b : ℕ = o.number in
       let clear : (x : ℕ) → Reads es x n ⊎ Releases es x n → ⊥
       = λ x i. elim i [
         | inl r ↦ elim role.1 [ inl g ↦ omega (arith, r.kind) | inr g ↦ omega (arith, r.kind) ]

@@ -139,16 +139,16 @@ module _ (es : List Event) (v : Tables) (made : MadeOf es v) (cut : List ℕ) wh
       not_two b (inr h) = ((λ z. omega arith), (λ z. omega arith))
 
       free_as : (role : Role) → RoleOf (kind_at es i) (subject_at es i) role → (r : Bool) → BlockedAs v cut role r → r ≡ false → Blocked es c i → ⊥
-      free_as (Lead b) role r h q = lead_free b role.1 h.1 (unbalanced_false b (sym h.0 ∙ q))
-      free_as (Take b) role r h q = let n = not_two b role.1 in plain_free n.0 n.1
+      free_as (Lead o) role r h q = lead_free o.number role.1 h.1 (unbalanced_false o.number (sym h.0 ∙ q))
+      free_as (Take o) role r h q = let n = not_two o.number role.1 in plain_free n.0 n.1
       free_as Apart role r h q =
           plain_free
           (λ z. (role (subject_at es i)).1 (inl (z, made.variables i next.noted z, refl)))
           (λ z. (role (32 + subject_at es i)).1 (inr (z, made.locks i next.noted z, refl)))
 
       blocked_as_lem : (role : Role) → RoleOf (kind_at es i) (subject_at es i) role → (r : Bool) → BlockedAs v cut role r → r ≡ true → Blocked es c i
-      blocked_as_lem (Lead b) role r h q = lead_blocked b role.1 h.1 (unbalanced_true b (sym h.0 ∙ q))
-      blocked_as_lem (Take b) role r h q = absurd (let z : false ≡ true = sym h ∙ q in false≢true z)
+      blocked_as_lem (Lead o) role r h q = lead_blocked o.number role.1 h.1 (unbalanced_true o.number (sym h.0 ∙ q))
+      blocked_as_lem (Take o) role r h q = absurd (let z : false ≡ true = sym h ∙ q in false≢true z)
       blocked_as_lem Apart role r h q = absurd (let z : false ≡ true = sym h ∙ q in false≢true z)
 
       pub is_free : (e : Event) → e ≡ get_or es i blank → (r : Bool) → BlockedBy v cut e r → r ≡ false → Blocked es c i → ⊥

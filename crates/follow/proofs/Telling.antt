@@ -1,6 +1,6 @@
 -- What the tables answer, as a function of the cut and the thread, is right at every cut that a path reaches.
 use Rattle.std.proofs.Common.{◌≡◌, ℕ, suc, ◌+◌, ◌<◌, ◌≤◌, Bool, true, false, cond, ◌&&◌, ◌||◌, eqb, ltb, leb, Option, List, get_or, Ok, Err, Decides, sym, refl, ap, ◌∙◌, inl, inr, arith}
-use Rattle.std.proofs.lemmas.Bool.{eqb-true, eq-eqb, ltb-true, lt-ltb, leb-true, leb-false, le-leb, lt-leb, and_parts, and_from, or_from, or_left, or_right, cond-true, cond-false, both_ways}
+use Rattle.std.proofs.lemmas.Bool.{eqb-true, eq-eqb, ltb-true, lt-ltb, leb-true, leb-false, le-leb, lt-leb, and_parts, and_from, or_from, or_left, or_right, cond-true, cond-false, both_ways, cases_Bool}
 use Rattle.std.proofs.lemmas.Bool.Decides.{same_from_decides, not_from_Decides, Decides-or}
 use Rattle.events.specs.declared.event.Event.{Event}
 use Rattle.order.specs.Trace.{blank}
@@ -14,68 +14,76 @@ use Rattle.follow.specs.declared.tables.Tables.{Tables}
 use Rattle.follow.specs.Balance.{Reached}
 use Rattle.follow.specs.Answers.{Answers}
 use Rattle.follow.specs.Roles.{RoleOf, Takes, LeadsOf}
-use Rattle.follow.specs.Looking.{HasSource, BlockedAs, BlockedBy, role_for, blocked_as, supplied_by, told_of, next_in}
+use Rattle.follow.specs.Looking.{HasSource, BlockedAs, BlockedBy, unbalanced, blocked_for, supplied_by, told_of, next_in}
 use Rattle.follow.specs.Made.{standing_in, source_of, MadeOf}
 use Rattle.follow.proofs.Looking.{next_of, none_next, no_thread, event_here, none_missing, one_missing, is_free, is_blocked, follows}
 
--- the role that is computed is the one that is meant
-module _ (k s : ℕ) where
-  abbrev chosen : Bool → Bool → Bool → Bool → Role
-  chosen a b c d = cond a (Take s) (cond b (Lead s) (cond c (Lead (32 + s)) (cond d (Take (32 + s)) Apart)))
-
+-- whether an event of kind k and subject s is blocked
+module _ (v : Tables) (cut : List ℕ) (k s : ℕ) where
   parts : (j n : ℕ) → (eqb k j && ltb s n) ≡ true → (k ≡ j) × (s < n)
   parts j n h = let p = and_parts (eqb k j) (ltb s n) h in (eqb-true k j p.0, ltb-true s n p.1)
 
+  holds : (j n : ℕ) → k ≡ j → s < n → (eqb k j && ltb s n) ≡ true
+  holds j n e l = and_from (eqb k j) (ltb s n) (eq-eqb k j e) (lt-ltb s n l)
+
   not_both : (j n : ℕ) → (eqb k j && ltb s n) ≡ false → k ≡ j → s < n → ⊥
-  not_both j n h e l = both_ways (eqb k j && ltb s n) h (and_from (eqb k j) (ltb s n) (eq-eqb k j e) (lt-ltb s n l))
+  not_both j n h e l = both_ways (eqb k j && ltb s n) h (holds j n e l)
 
-  role_chosen : (a b c d : Bool) → (eqb k 1 && ltb s 32) ≡ a → (eqb k 2 && ltb s 32) ≡ b → (eqb k 3 && ltb s 16) ≡ c → (eqb k 4 && ltb s 16) ≡ d
-      → RoleOf k s (chosen a b c d)
-  role_chosen true b c d p q r z = let h = parts 1 32 p in (omega (arith, h.1), inl (h.0, h.1, refl))
-  role_chosen false true c d p q r z = let h = parts 2 32 q in (omega (arith, h.1), inl (h.0, h.1, refl))
-  role_chosen false false true d p q r z = let h = parts 3 16 r in (omega (arith, h.1), inr (h.0, h.1, refl))
-  role_chosen false false false true p q r z = let h = parts 4 16 z in (omega (arith, h.1), inr (h.0, h.1, refl))
-  role_chosen false false false false p q r z = λ b. (takes b, leads b)
-    where
-      takes : (b : ℕ) → Takes k s b → ⊥
-      takes b (inl h) = not_both 1 32 p h.0 h.1
-      takes b (inr h) = not_both 4 16 z h.0 h.1
+  fails : (j n : ℕ) → (k ≡ j → s < n → ⊥) → (eqb k j && ltb s n) ≡ false
+  fails j n no' = elim (cases_Bool (eqb k j && ltb s n)) [ inl q ↦ absurd (no' (parts j n q).0 (parts j n q).1) | inr q ↦ q ]
 
-      leads : (b : ℕ) → LeadsOf k s b → ⊥
-      leads b (inl h) = not_both 2 32 q h.0 h.1
-      leads b (inr h) = not_both 3 16 r h.0 h.1
+  as_write : k ≡ 2 → s < 32 → blocked_for v cut k s ≡ unbalanced v cut s
+  as_write e l = cond-true (eqb k 2 && ltb s 32) _ _ (holds 2 32 e l)
 
-  role_for_lem : RoleOf k s (role_for k s)
-  role_for_lem = role_chosen _ _ _ _ refl refl refl refl
+  as_acquire : k ≡ 3 → s < 16 → blocked_for v cut k s ≡ unbalanced v cut (32 + s)
+  as_acquire e l = cond-false (eqb k 2 && ltb s 32) _ _ (fails 2 32 (λ z m. omega arith)) ∙ cond-true (eqb k 3 && ltb s 16) _ _ (holds 3 16 e l)
 
-  takes_one : (a b : ℕ) → Takes k s a → Takes k s b → a ≡ b
-  takes_one a b (inl h) (inl g) = omega arith
-  takes_one a b (inl h) (inr g) = absurd (omega arith)
-  takes_one a b (inr h) (inl g) = absurd (omega arith)
-  takes_one a b (inr h) (inr g) = omega arith
+  as_neither : (k ≡ 2 → s < 32 → ⊥) → (k ≡ 3 → s < 16 → ⊥) → blocked_for v cut k s ≡ false
+  as_neither a b = cond-false (eqb k 2 && ltb s 32) _ _ (fails 2 32 a) ∙ cond-false (eqb k 3 && ltb s 16) _ _ (fails 3 16 b)
 
-  leads_one : (a b : ℕ) → LeadsOf k s a → LeadsOf k s b → a ≡ b
-  leads_one a b (inl h) (inl g) = omega arith
-  leads_one a b (inl h) (inr g) = absurd (omega arith)
-  leads_one a b (inr h) (inl g) = absurd (omega arith)
-  leads_one a b (inr h) (inr g) = omega arith
+  takes_neither : (b : ℕ) → Takes k s b → blocked_for v cut k s ≡ false
+  takes_neither b (inl h) = as_neither (λ e l. omega arith) (λ e l. omega arith)
+  takes_neither b (inr h) = as_neither (λ e l. omega arith) (λ e l. omega arith)
 
-  not_two : (a b : ℕ) → Takes k s a → LeadsOf k s b → ⊥
-  not_two a b (inl h) (inl g) = omega arith
-  not_two a b (inl h) (inr g) = omega arith
-  not_two a b (inr h) (inl g) = omega arith
-  not_two a b (inr h) (inr g) = omega arith
+  leads_value : (b : ℕ) → LeadsOf k s b → blocked_for v cut k s ≡ unbalanced v cut b
+  leads_value b (inl h) = as_write h.0 h.1 ∙ sym (ap (unbalanced v cut) h.2)
+  leads_value b (inr h) = as_acquire h.0 h.1 ∙ sym (ap (unbalanced v cut) h.2)
 
-  one_role : (p q : Role) → RoleOf k s p → RoleOf k s q → p ≡ q
-  one_role (Take a) (Take b) x y = ap Take (takes_one a b x.1 y.1)
-  one_role (Take a) (Lead b) x y = absurd (not_two a b x.1 y.1)
-  one_role (Take a) Apart x y = absurd ((y a).0 x.1)
-  one_role (Lead a) (Take b) x y = absurd (not_two b a y.1 x.1)
-  one_role (Lead a) (Lead b) x y = ap Lead (leads_one a b x.1 y.1)
-  one_role (Lead a) Apart x y = absurd ((y a).1 x.1)
-  one_role Apart (Take b) x y = absurd ((x b).0 y.1)
-  one_role Apart (Lead b) x y = absurd ((x b).1 y.1)
-  one_role Apart Apart x y = refl
+  role_value : (role : Role) (r : Bool) → RoleOf k s role → BlockedAs v cut role r → r ≡ blocked_for v cut k s
+  role_value (Lead o) r h g = g.0 ∙ sym (leads_value o.number h.1)
+  role_value (Take o) r h g = g ∙ sym (takes_neither o.number h.1)
+  role_value Apart r h g = g ∙ sym (as_neither (λ e l. (h s).1 (inl (e, l, refl))) (λ e l. (h (32 + s)).1 (inr (e, l, refl))))
+
+  abbrev Role_of_it : Type 0
+  Role_of_it = (role : Role) × RoleOf k s role × BlockedAs v cut role (blocked_for v cut k s)
+
+  module _ (small : (u : ℕ) → u < 8 → get_or cut u 0 < 256) where
+    lead : (b : ℕ) → b < 48 → LeadsOf k s b → Role_of_it
+    lead b l h = (Lead (record { number = b; within = l }), (l, h), (leads_value b h, small))
+
+    take : (b : ℕ) → b < 48 → Takes k s b → Role_of_it
+    take b l h = (Take (record { number = b; within = l }), (l, h), takes_neither b h)
+
+    apart : (eqb k 1 && ltb s 32) ≡ false → (eqb k 2 && ltb s 32) ≡ false → (eqb k 3 && ltb s 16) ≡ false → (eqb k 4 && ltb s 16) ≡ false → Role_of_it
+    apart p q r z = (Apart, (λ b. (takes b, leads b)), as_neither (not_both 2 32 q) (not_both 3 16 r))
+      where
+        takes : (b : ℕ) → Takes k s b → ⊥
+        takes b (inl h) = not_both 1 32 p h.0 h.1
+        takes b (inr h) = not_both 4 16 z h.0 h.1
+
+        leads : (b : ℕ) → LeadsOf k s b → ⊥
+        leads b (inl h) = not_both 2 32 q h.0 h.1
+        leads b (inr h) = not_both 3 16 r h.0 h.1
+
+    chosen : (a b c d : Bool) → (eqb k 1 && ltb s 32) ≡ a → (eqb k 2 && ltb s 32) ≡ b → (eqb k 3 && ltb s 16) ≡ c → (eqb k 4 && ltb s 16) ≡ d → Role_of_it
+    chosen true b c d p q r z = let h = parts 1 32 p in take s (omega (arith, h.1)) (inl (h.0, h.1, refl))
+    chosen false true c d p q r z = let h = parts 2 32 q in lead s (omega (arith, h.1)) (inl (h.0, h.1, refl))
+    chosen false false true d p q r z = let h = parts 3 16 r in lead (32 + s) (omega (arith, h.1)) (inr (h.0, h.1, refl))
+    chosen false false false true p q r z = let h = parts 4 16 z in take (32 + s) (omega (arith, h.1)) (inr (h.0, h.1, refl))
+    chosen false false false false p q r z = apart p q r z
+
+    some_role : Role_of_it
+    some_role = chosen _ _ _ _ refl refl refl refl
 
 decides_leb : (a b : ℕ) → Decides (leb a b) (a ≤ b)
 decides_leb a b = (leb-true a b, le-leb a b)
@@ -86,14 +94,8 @@ decides_supplied cut source =
     Decides-or (leb 8 from.0) (leb from.1 (get_or cut from.0 0)) (decides_leb 8 from.0) (decides_leb from.1 (get_or cut from.0 0))
 
 module _ (v : Tables) (cut : List ℕ) where
-  told_as : (r : Bool) (role : Role) → BlockedAs v cut role r → r ≡ blocked_as v cut role
-  told_as r (Lead b) h = h.0
-  told_as r (Take b) h = h
-  told_as r Apart h = h
-
-  pub blocked_value : (e : Event) (r : Bool) → BlockedBy v cut e r → r ≡ blocked_as v cut (role_for e.kind e.subject)
-  blocked_value e r h =
-      told_as r h.0 h.2 ∙ ap (blocked_as v cut) (one_role e.kind e.subject h.0 (role_for e.kind e.subject) h.1 (role_for_lem e.kind e.subject))
+  pub blocked_value : (e : Event) (r : Bool) → BlockedBy v cut e r → r ≡ blocked_for v cut e.kind e.subject
+  blocked_value e r h = role_value v cut e.kind e.subject h.0 r h.1 h.2
 
   module _ (t : ℕ) (standing : Standing) (is : standing ≡ standing_in v t (suc (get_or cut t 0))) (few : t < 8) (more : get_or cut t 0 < get_or v.counts t 0) where
     abbrev source : Option (ℕ × ℕ)
@@ -118,11 +120,11 @@ module _ (v : Tables) (cut : List ℕ) where
       module _ (r : Bool) (blocked : BlockedBy v cut event r) (has : s ≡ true) where
         pub blocked_next : r ≡ true → (Err because.Blocked) ≡ next_in v cut t
         blocked_next h =
-            sym (told_value ∙ cond-true (supplied_by cut source) _ _ (supplied_value ∙ has) ∙ cond-true (blocked_as v cut (role_for event.kind event.subject)) _ _ (sym (blocked_value event r blocked) ∙ h))
+            sym (told_value ∙ cond-true (supplied_by cut source) _ _ (supplied_value ∙ has) ∙ cond-true (blocked_for v cut event.kind event.subject) _ _ (sym (blocked_value event r blocked) ∙ h))
 
         pub free_next : r ≡ false → Ok event ≡ next_in v cut t
         free_next h =
-            sym (told_value ∙ cond-true (supplied_by cut source) _ _ (supplied_value ∙ has) ∙ cond-false (blocked_as v cut (role_for event.kind event.subject)) _ _ (sym (blocked_value event r blocked) ∙ h))
+            sym (told_value ∙ cond-true (supplied_by cut source) _ _ (supplied_value ∙ has) ∙ cond-false (blocked_for v cut event.kind event.subject) _ _ (sym (blocked_value event r blocked) ∙ h))
 
   pub beyond_value : (t : ℕ) → 8 ≤ t → (Err because.Done) ≡ next_in v cut t
   beyond_value t h =
@@ -134,11 +136,6 @@ module _ (v : Tables) (cut : List ℕ) where
 
 module _ (es : List Event) (v : Tables) (made : MadeOf es v) (cut : List ℕ) (reached : Reached es (cut_of cut))
     (small : (u : ℕ) → u < 8 → get_or cut u 0 < 256) (t : ℕ) where
-  as_blocked : (role : Role) → BlockedAs v cut role (blocked_as v cut role)
-  as_blocked (Lead b) = (refl, small)
-  as_blocked (Take b) = refl
-  as_blocked Apart = refl
-
   module _ (few : t < 8) (more : get_or cut t 0 < get_or v.counts t 0) where
     abbrev standing : Standing
     standing = standing_in v t (suc (get_or cut t 0))
@@ -155,10 +152,10 @@ module _ (es : List Event) (v : Tables) (made : MadeOf es v) (cut : List ℕ) (r
     event_is : e ≡ get_or es next.0 blank
     event_is = event_here es v made cut reached t next.0 next.1
 
-    blocked_by : BlockedBy v cut e (blocked_as v cut (role_for e.kind e.subject))
-    blocked_by = (role_for e.kind e.subject, role_for_lem e.kind e.subject, as_blocked (role_for e.kind e.subject))
+    blocked_by : BlockedBy v cut e (blocked_for v cut e.kind e.subject)
+    blocked_by = some_role v cut e.kind e.subject small
 
-    told_right : (s r : Bool) → supplied_by cut standing.source ≡ s → blocked_as v cut (role_for e.kind e.subject) ≡ r
+    told_right : (s r : Bool) → supplied_by cut standing.source ≡ s → blocked_for v cut e.kind e.subject ≡ r
         → Answers es (cut_of cut) t (cond s (cond r (Err because.Blocked) (Ok e)) (Err because.Missing))
     told_right false r p q = (
       next.0,

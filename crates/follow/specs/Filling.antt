@@ -79,8 +79,8 @@ taking v e b source = record {
 }
 
 abbrev pub entered : Tables → Event → Role → Tables
-entered v e (Take b) = let source = (groups_in v b).latest in placed (taking v e b source) e source
-entered v e (Lead b) = placed (leading v e b) e None
+entered v e (Take o) = let source = (groups_in v o.number).latest in placed (taking v e o.number source) e source
+entered v e (Lead o) = placed (leading v e o.number) e None
 entered v e Apart = placed v e None
 
 -- the tables w have taken in the event e

@@ -28,24 +28,18 @@ unbalanced tables cut b =
 
 -- an event of this role is blocked
 abbrev pub BlockedAs : Tables → List ℕ → Role → Bool → Type 0
-BlockedAs tables cut (Lead b) r = (r ≡ unbalanced tables cut b) × ((t : ℕ) → t < 8 → slice_index cut t < 256)
-BlockedAs tables cut (Take b) r = r ≡ false
+BlockedAs tables cut (Lead o) r = (r ≡ unbalanced tables cut o.number) × ((t : ℕ) → t < 8 → slice_index cut t < 256)
+BlockedAs tables cut (Take o) r = r ≡ false
 BlockedAs tables cut Apart r = r ≡ false
 
 abbrev pub BlockedBy : Tables → List ℕ → Event → Bool → Type 0
 BlockedBy tables cut e r = (role : Role) × RoleOf e.kind e.subject role × BlockedAs tables cut role r
 
--- The same as functions, of any tables and any cut. The role of the events of kind k and subject s:
-abbrev pub role_for : ℕ → ℕ → Role
-role_for k s =
-    cond (k == 1 && nat_lt s 32) (Take s)
-    (cond (k == 2 && nat_lt s 32) (Lead s) (cond (k == 3 && nat_lt s 16) (Lead (32 + s)) (cond (k == 4 && nat_lt s 16) (Take (32 + s)) Apart)))
-
--- whether an event of this role is blocked
-abbrev pub blocked_as : Tables → List ℕ → Role → Bool
-blocked_as tables cut (Lead b) = unbalanced tables cut b
-blocked_as tables cut (Take b) = false
-blocked_as tables cut Apart = false
+-- The same as functions, of any tables and any cut. Whether an event of kind k and subject s is blocked, as a write of a variable
+-- or an acquire of a lock that does not add up:
+abbrev pub blocked_for : Tables → List ℕ → ℕ → ℕ → Bool
+blocked_for tables cut k s =
+    cond (k == 2 && nat_lt s 32) (unbalanced tables cut s) (cond (k == 3 && nat_lt s 16) (unbalanced tables cut (32 + s)) false)
 
 -- whether a source is in the cut, or is none
 abbrev pub supplied_by : List ℕ → Option (ℕ × ℕ) → Bool
@@ -54,7 +48,7 @@ supplied_by cut source = nat_le 8 (source_of source).0 || nat_le (source_of sour
 -- what is said of the event e, which has this source
 abbrev pub told_of : Tables → List ℕ → Option (ℕ × ℕ) → Event → Result Event NoNext
 told_of tables cut source e =
-    cond (supplied_by cut source) (cond (blocked_as tables cut (role_for e.kind e.subject)) (Err because.Blocked) (Ok e)) (Err because.Missing)
+    cond (supplied_by cut source) (cond (blocked_for tables cut e.kind e.subject) (Err because.Blocked) (Ok e)) (Err because.Missing)
 
 -- what the tables answer of the cut and thread t
 abbrev pub next_in : Tables → List ℕ → ℕ → Result Event NoNext

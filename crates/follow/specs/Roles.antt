@@ -12,6 +12,6 @@ abbrev pub LeadsOf : ℕ → ℕ → ℕ → Type 0
 LeadsOf k s b = ((k ≡ 2) × (s < 32) × (b ≡ s)) ⊎ ((k ≡ 3) × (s < 16) × (b ≡ 32 + s))
 
 abbrev pub RoleOf : ℕ → ℕ → Role → Type 0
-RoleOf k s (Take b) = (b < 48) × Takes k s b
-RoleOf k s (Lead b) = (b < 48) × LeadsOf k s b
+RoleOf k s (Take o) = (o.number < 48) × Takes k s o.number
+RoleOf k s (Lead o) = (o.number < 48) × LeadsOf k s o.number
 RoleOf k s Apart = (b : ℕ) → (Takes k s b → ⊥) × (LeadsOf k s b → ⊥)

@@ -4,8 +4,9 @@ ghost use Rattle.events.specs.Noting.{Opening, Noted};
 ghost use Rattle.follow.specs.Filling.{one_more, both, taking, Entered, Summed, SummedAt};
 ghost use Rattle.follow.specs.Made.{MadeOf, Small};
 
+use crate::object::{OBJECTS, Object};
 use crate::role::{Role, role_of};
-use crate::tables::{CELLS, OBJECTS, PLACES, Standing, THREADS, Tables, Tally, cell, slot};
+use crate::tables::{CELLS, PLACES, Standing, THREADS, Tables, Tally, cell, slot};
 use events::Event;
 
 // The cells of one thread: a row for each count.
@@ -30,7 +31,8 @@ impl Tally {
     }
 }
 
-// Sums the tallies of one thread up over its places.
+// Sums the tallies of one thread up over its places. Stays a loop by index: each tally adds the one
+// a row before it.
 fn sum_thread(tallies: &mut [Tally; CELLS], thread: usize)
     requires { thread < 8 }
     ensures { SummedAt tallies.old tallies.new thread }
@@ -41,7 +43,8 @@ fn sum_thread(tallies: &mut [Tally; CELLS], thread: usize)
     }
 }
 
-// Sums the tallies of each thread up over its places.
+// Sums the tallies of each thread up over its places. Stays a loop over thread numbers: of what is
+// written through chunks of a slice the check keeps the length alone.
 fn sum_up(tallies: &mut [Tally; CELLS])
     ensures { Summed tallies.old tallies.new }
 {
@@ -52,17 +55,16 @@ fn sum_up(tallies: &mut [Tally; CELLS])
 
 impl Tables {
     // Counts a read or a release in.
-    fn take(&mut self, e: Event, object: usize, source: Option<(u8, u8)>)
-        requires known { e.thread < 8 }
-        requires numbered { object < 48 }
-        ensures { self.new ≡ taking self.old e object source }
+    fn take(&mut self, e: Event, object: Object, source: Option<(u8, u8)>)
+        requires { e.thread < 8 }
+        ensures { self.new ≡ taking self.old e object.number source }
     {
         raise(&mut self.tallies[cell(e.thread, e.place, object)].taken);
         match source {
             Some((thread, place)) if thread < 8 => {
                 raise(&mut self.tallies[cell(thread, place, object)].led);
             }
-            _ => raise(&mut self.groups[object].starting),
+            _ => raise(&mut self.groups[object.number].starting),
         }
     }
 
@@ -74,10 +76,10 @@ impl Tables {
         let mut source = None;
         match role_of(e.kind, e.subject) {
             Role::Take(object) => {
-                source = self.groups[object].latest;
+                source = self.groups[object.number].latest;
                 self.take(e, object, source);
             }
-            Role::Lead(object) => self.groups[object].latest = Some((e.thread, e.place)),
+            Role::Lead(object) => self.groups[object.number].latest = Some((e.thread, e.place)),
             Role::Apart => {}
         }
         self.counts[e.thread as usize] = e.place;

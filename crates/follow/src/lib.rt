@@ -4,6 +4,7 @@
 mod fill;
 mod next;
 pub mod no_next;
+pub(crate) mod object;
 pub(crate) mod role;
 pub mod tables;
 pub mod theory;

@@ -9,6 +9,7 @@ ghost use Rattle.follow.specs.Made.{MadeOf};
 ghost use Rattle.follow.specs.Looking.{HasSource, unbalanced, BlockedBy, next_in};
 
 use crate::no_next::NoNext;
+use crate::object::Object;
 use crate::role::{Role, role_of};
 use crate::tables::{Tables, cell, slot};
 use events::Event;
@@ -25,12 +26,11 @@ fn supplied(cut: [u8; 8], source: Option<(u8, u8)>) -> bool
 
 impl Tables {
     // Whether a read or a release of the object waits: more are led into the cut than taken.
-    fn waits(&self, cut: [u8; 8], object: usize) -> bool
-        requires { object < 48 }
-        ensures sums { result ≡ unbalanced self.now cut object }
+    fn waits(&self, cut: [u8; 8], object: Object) -> bool
+        ensures sums { result ≡ unbalanced self.now cut object.number }
         ensures small { (t : ℕ) → t < 8 → slice_index cut t < 256 }
     {
-        let mut led = self.groups[object].starting as u32;
+        let mut led = self.groups[object.number].starting as u32;
         let mut taken = 0u32;
         for (t, &done) in cut.iter().enumerate() {
             let tally = &self.tallies[cell(t as u8, done, object)];

@@ -1,14 +1,14 @@
-// What an event is to the groups of its variable or lock. The objects are numbered: variable x is
-// x, and lock l is 32 + l.
+// What an event is to the groups of its variable or lock.
 ghost use Rattle.follow.specs.Roles.{RoleOf};
 
+use crate::object::{LOCKS, Object, VARIABLES};
 use events::Kind;
 
 pub(crate) enum Role {
     // a write or an acquire: it leads a group of this object
-    Lead(usize),
+    Lead(Object),
     // a read or a release: it takes its place in a group of this object
-    Take(usize),
+    Take(Object),
     // of no group
     Apart,
 }
@@ -17,10 +17,10 @@ pub(crate) fn role_of(kind: u8, subject: u8) -> Role
     ensures { RoleOf kind subject result }
 {
     match Kind::try_from(kind) {
-        Ok(Kind::Read) if subject < 32 => Role::Take(subject as usize),
-        Ok(Kind::Write) if subject < 32 => Role::Lead(subject as usize),
-        Ok(Kind::Acquire) if subject < 16 => Role::Lead(32 + subject as usize),
-        Ok(Kind::Release) if subject < 16 => Role::Take(32 + subject as usize),
+        Ok(Kind::Read) if subject < VARIABLES => Role::Take(Object::variable(subject)),
+        Ok(Kind::Write) if subject < VARIABLES => Role::Lead(Object::variable(subject)),
+        Ok(Kind::Acquire) if subject < LOCKS => Role::Lead(Object::lock(subject)),
+        Ok(Kind::Release) if subject < LOCKS => Role::Take(Object::lock(subject)),
         _ => Role::Apart,
     }
 }

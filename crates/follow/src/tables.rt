@@ -6,6 +6,7 @@ ghost use Rattle.order.specs.Maps.{Source};
 ghost use Rattle.follow.specs.Filling.{blank_tables};
 ghost use Rattle.follow.specs.Made.{slot_of, cell_of, MadeOf, source_in};
 
+use crate::object::{OBJECTS, Object};
 use events::Event;
 use order::Row;
 
@@ -14,9 +15,6 @@ pub(crate) const THREADS: usize = 8;
 
 // Of each thread the places of its events, and counts of them, 0 to 255.
 pub(crate) const PLACES: usize = 256;
-
-// Variables and locks.
-pub(crate) const OBJECTS: usize = 48;
 
 // A slot for each thread and each place or count.
 pub(crate) const SLOTS: usize = THREADS * PLACES;
@@ -60,7 +58,8 @@ pub struct Tables {
     pub(crate) standings: [Standing; SLOTS],
     // by object
     pub(crate) groups: [Groups; OBJECTS],
-    // by thread, count of its first events, and object
+    // by thread, count of its first events, and object: one table for all, since a table for each
+    // thread, with a row for each count, was made in more than twice the time
     pub(crate) tallies: [Tally; CELLS],
 }
 
@@ -115,9 +114,8 @@ pub(crate) fn slot(thread: u8, place: u8) -> usize
 }
 
 // Where an object's tally for a thread's first events stands, as many as the count.
-pub(crate) fn cell(thread: u8, count: u8, object: usize) -> usize
-    requires { object < 48 }
-    ensures { result ≡ cell_of thread count object }
+pub(crate) fn cell(thread: u8, count: u8, object: Object) -> usize
+    ensures { result ≡ cell_of thread count object.number }
 {
-    slot(thread, count) * OBJECTS + object
+    slot(thread, count) * OBJECTS + object.number
 }

@@ -21,7 +21,7 @@ pub loop-t-preserved : goal.loop-t-preserved
 loop-t-preserved c =
     let cut : List ℕ = c.args.cut in
     let t : ℕ = c.loop-t.t in
-    let b : ℕ = c.args.object in
+    let b : ℕ = c.args.object.number in
     let tally : ℕ → Tally = λ z. get_or c.args.self.now.tallies z (record { led = 0; taken = 0 }) in
     let led = over_more (led_in c.args.self.now cut b) t (t + 1) (tally c.cell.result).led refl (ap (λ z. (tally z).led) c.cell.ensures) in
     let taken = over_more (taken_in c.args.self.now cut b) t (t + 1) (tally c.cell.result).taken refl (ap (λ z. (tally z).taken) c.cell.ensures) in (
@@ -35,9 +35,9 @@ loop-t-preserved c =
 pub returns : goal.returns
 returns c =
     let all : c.loop-t.t ≡ 8 = omega (arith, c.loop-t.auto) in
-    let led = c.loop-t.invariant.0 ∙ ap (λ n. (groups_in c.args.self.now c.args.object).starting + over_threads (led_in c.args.self.now c.args.cut c.args.object) n) all in
-    let taken = c.loop-t.invariant.1 ∙ ap (over_threads (taken_in c.args.self.now c.args.cut c.args.object)) all in
+    let led = c.loop-t.invariant.0 ∙ ap (λ n. (groups_in c.args.self.now c.args.object.number).starting + over_threads (led_in c.args.self.now c.args.cut c.args.object.number) n) all in
+    let taken = c.loop-t.invariant.1 ∙ ap (over_threads (taken_in c.args.self.now c.args.cut c.args.object.number)) all in
     record {
-      sums = ap (λ a. not (eqb a c.loop-t.taken)) led ∙ ap (λ a. not (eqb ((groups_in c.args.self.now c.args.object).starting + over_threads (led_in c.args.self.now c.args.cut c.args.object) 8) a)) taken;
+      sums = ap (λ a. not (eqb a c.loop-t.taken)) led ∙ ap (λ a. not (eqb ((groups_in c.args.self.now c.args.object.number).starting + over_threads (led_in c.args.self.now c.args.cut c.args.object.number) 8) a)) taken;
       small = λ u l. c.loop-t.invariant.4 u (omega arith);
     }

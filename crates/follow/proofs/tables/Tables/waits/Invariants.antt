@@ -6,8 +6,8 @@ use Rattle.follow.proofs.tables.Tables.waits.Given as goal
 
 abbrev pub invariant-loop-t : goal.invariant-loop-t
 invariant-loop-t l =
-    (l.led ≡ (groups_in l.self l.object).starting + over_threads (led_in l.self l.fn.cut l.object) l.t)
-    × (l.taken ≡ over_threads (taken_in l.self l.fn.cut l.object) l.t)
+    (l.led ≡ (groups_in l.self l.object.number).starting + over_threads (led_in l.self l.fn.cut l.object.number) l.t)
+    × (l.taken ≡ over_threads (taken_in l.self l.fn.cut l.object.number) l.t)
     × (l.led < 65536 * (l.t + 1))
     × (l.taken ≤ 65536 * l.t)
     × ((u : ℕ) → u < l.t → get_or l.fn.cut u 0 < 256)
