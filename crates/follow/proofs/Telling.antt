@@ -1,6 +1,6 @@
 -- What the tables answer, as a function of the cut and the thread, is right at every cut that a path reaches.
 use Rattle.std.proofs.Common.{◌≡◌, ℕ, suc, ◌+◌, ◌<◌, ◌≤◌, Bool, true, false, cond, ◌&&◌, ◌||◌, eqb, ltb, leb, Option, List, get_or, Ok, Err, Decides, sym, refl, ap, ◌∙◌, inl, inr, arith}
-use Rattle.std.proofs.lemmas.Bool.{eqb-true, eq-eqb, ltb-true, lt-ltb, leb-true, leb-false, le-leb, lt-leb, and_parts, and_from, or_from, or_left, or_right, cond-true, cond-false, both_ways, cases_Bool}
+use Rattle.std.proofs.lemmas.Bool.{eqb-true, eq-eqb, ltb-true, lt-ltb, leb-true, leb-false, le-leb, lt-leb, and_parts, and_from, or_from, cond-true, cond-false, both_ways, cases_Bool}
 use Rattle.std.proofs.lemmas.Bool.Decides.{same_from_decides, not_from_Decides, Decides-or}
 use Rattle.events.specs.declared.event.Event.{Event}
 use Rattle.order.specs.Trace.{blank}
@@ -114,9 +114,6 @@ module _ (v : Tables) (cut : List ℕ) where
       supplied_value : supplied_by cut source ≡ s
       supplied_value = same_from_decides (supplied_by cut source) s (decides_supplied cut source) supplied
 
-      pub missing_value : s ≡ false → (Err because.Missing) ≡ next_in v cut t
-      missing_value h = sym (told_value ∙ cond-false (supplied_by cut source) _ _ (supplied_value ∙ h))
-
       module _ (r : Bool) (blocked : BlockedBy v cut event r) (has : s ≡ true) where
         pub blocked_next : r ≡ true → (Err because.Blocked) ≡ next_in v cut t
         blocked_next h =
@@ -125,14 +122,6 @@ module _ (v : Tables) (cut : List ℕ) where
         pub free_next : r ≡ false → Ok event ≡ next_in v cut t
         free_next h =
             sym (told_value ∙ cond-true (supplied_by cut source) _ _ (supplied_value ∙ has) ∙ cond-false (blocked_for v cut event.kind event.subject) _ _ (sym (blocked_value event r blocked) ∙ h))
-
-  pub beyond_value : (t : ℕ) → 8 ≤ t → (Err because.Done) ≡ next_in v cut t
-  beyond_value t h =
-      sym (cond-true (leb 8 t || leb (get_or v.counts t 0) (get_or cut t 0)) _ _ (or_left (leb 8 t) (leb (get_or v.counts t 0) (get_or cut t 0)) (le-leb 8 t h)))
-
-  pub done_value : (t : ℕ) → get_or v.counts t 0 ≤ get_or cut t 0 → (Err because.Done) ≡ next_in v cut t
-  done_value t h =
-      sym (cond-true (leb 8 t || leb (get_or v.counts t 0) (get_or cut t 0)) _ _ (or_right (leb 8 t) (leb (get_or v.counts t 0) (get_or cut t 0)) (le-leb (get_or v.counts t 0) (get_or cut t 0) h)))
 
 module _ (es : List Event) (v : Tables) (made : MadeOf es v) (cut : List ℕ) (reached : Reached es (cut_of cut))
     (small : (u : ℕ) → u < 8 → get_or cut u 0 < 256) (t : ℕ) where

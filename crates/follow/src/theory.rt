@@ -8,6 +8,7 @@ pub fn balance()
 {}
 
 // At most one answer is right, so each is given exactly when it is.
+#[tactic(auto, using(crate::proofs::Single::one_answer))]
 pub fn one_answer()
     ensures { OneAnswer }
 {}

@@ -1,4 +1,4 @@
-use Rattle.std.proofs.Common.{◌≡◌, ℕ, suc, ◌+◌, ◌<◌, ◌≤◌, Bool, true, false, None, List, get_or, Ok, Err, refl, ap, ◌∙◌, subst, arith}
+use Rattle.std.proofs.Common.{◌≡◌, ℕ, suc, ◌+◌, ◌<◌, Bool, true, false, None, List, get_or, Ok, Err, ap, ◌∙◌, subst, arith}
 use Rattle.events.specs.declared.event.Event.{Event}
 use Rattle.order.specs.Trace.{blank}
 use Rattle.order.specs.Waiting.{HasNext, Missing}
@@ -11,24 +11,9 @@ use Rattle.follow.specs.Balance.{Reached}
 use Rattle.follow.specs.Answers.{Answers}
 use Rattle.follow.specs.Looking.{HasSource, BlockedBy}
 use Rattle.follow.specs.Made.{slot_of, standing_in, MadeOf}
-use Rattle.follow.proofs.Looking.{next_of, none_next, no_thread, event_here, none_missing, one_missing, is_free, is_blocked, follows}
-use Rattle.follow.proofs.Telling.{beyond_value, done_value, missing_value, blocked_next, free_next}
+use Rattle.follow.proofs.Looking.{next_of, none_next, event_here, none_missing, one_missing, is_free, is_blocked, follows}
+use Rattle.follow.proofs.Telling.{blocked_next, free_next}
 use Rattle.follow.proofs.tables.Tables.next.Goals as goal
-
-pub returns-then-thread-ge8 : goal.returns-then-thread-ge8
-returns-then-thread-ge8 c = record { answers = λ es made reached. no_thread es c.args.self.now made c.args.cut c.args.thread c.if-thread-ge8.true; beyond = λ _. refl; value = beyond_value c.args.self.now c.args.cut c.args.thread c.if-thread-ge8.true; more = λ e h. let z : ◌≡◌ {A = ℕ} 0 1 = cc in absurd (omega arith) }
-
--- below 8 threads
-known : {A : Type 0} (t : ℕ) → t < 8 → 8 ≤ t → A
-known t l h = absurd (omega arith)
-
-pub returns-then-done-self : goal.returns-then-done-self
-returns-then-done-self c = record {
-  answers = λ es made reached. none_next es c.args.self.now made c.args.cut c.args.thread c.if-thread-ge8.false c.if-done-self.true;
-  beyond = λ h. refl;
-  value = done_value c.args.self.now c.args.cut c.args.thread c.if-done-self.true;
-  more = λ e h. let z : ◌≡◌ {A = ℕ} 0 1 = cc in absurd (omega arith);
-}
 
 -- where the thread's next event stands
 at_next : (v : Tables) (t p at : ℕ) → at ≡ slot_of t (p + 1) → get_or v.standings at (record { event = blank; source = None }) ≡ standing_in v t (suc p)
@@ -64,32 +49,29 @@ module _ (es : List Event) (v : Tables) (made : MadeOf es v) (cut : List ℕ) (r
     event,
   )
 
-pub returns-then-not-supplied : goal.returns-then-not-supplied
-returns-then-not-supplied c = record {
-  answers = λ es made reached.
-      missing es c.args.self.now made c.args.cut reached c.args.thread c.if-thread-ge8.false c.if-done-self.false _ (at_next c.args.self.now c.args.thread (get_or c.args.cut c.args.thread 0) c.slot.result c.slot.ensures)
-      (not_from_Decides _ c.supplied.ensures c.if-not-supplied.true);
-  beyond = known c.args.thread c.if-thread-ge8.false;
-  value = missing_value c.args.self.now c.args.cut c.args.thread _ (at_next c.args.self.now c.args.thread (get_or c.args.cut c.args.thread 0) c.slot.result c.slot.ensures) c.if-thread-ge8.false c.if-done-self.false _ c.supplied.ensures c.if-not-supplied.true;
-  more = λ e h. let z : ◌≡◌ {A = ℕ} 0 1 = cc in absurd (omega arith);
-}
+pub returns-then-done-self-clause-answers : goal.returns-then-done-self-clause-answers
+returns-then-done-self-clause-answers c = λ es made reached.
+    none_next es c.args.self.now made c.args.cut c.args.thread c.if-thread-ge8.false c.if-done-self.true
 
-pub returns-then-blocked : goal.returns-then-blocked
-returns-then-blocked c = record {
-  answers = λ es made reached.
-      blocked es c.args.self.now made c.args.cut reached c.args.thread c.if-thread-ge8.false c.if-done-self.false _ (at_next c.args.self.now c.args.thread (get_or c.args.cut c.args.thread 0) c.slot.result c.slot.ensures)
-      (c.supplied.ensures.0 c.if-not-supplied.false) _ c.blocked.ensures c.if-blocked.true;
-  beyond = known c.args.thread c.if-thread-ge8.false;
-  value = blocked_next c.args.self.now c.args.cut c.args.thread _ (at_next c.args.self.now c.args.thread (get_or c.args.cut c.args.thread 0) c.slot.result c.slot.ensures) c.if-thread-ge8.false c.if-done-self.false _ c.supplied.ensures _ c.blocked.ensures c.if-not-supplied.false c.if-blocked.true;
-  more = λ e h. let z : ◌≡◌ {A = ℕ} 0 1 = cc in absurd (omega arith);
-}
+pub returns-then-not-supplied-clause-answers : goal.returns-then-not-supplied-clause-answers
+returns-then-not-supplied-clause-answers c = λ es made reached.
+    missing es c.args.self.now made c.args.cut reached c.args.thread c.if-thread-ge8.false c.if-done-self.false _ (at_next c.args.self.now c.args.thread (get_or c.args.cut c.args.thread 0) c.slot.result c.slot.ensures)
+    (not_from_Decides _ c.supplied.ensures c.if-not-supplied.true)
 
-pub returns : goal.returns
-returns c = record {
-  answers = λ es made reached.
-      follows_next es c.args.self.now made c.args.cut reached c.args.thread c.if-thread-ge8.false c.if-done-self.false _ (at_next c.args.self.now c.args.thread (get_or c.args.cut c.args.thread 0) c.slot.result c.slot.ensures)
-      (c.supplied.ensures.0 c.if-not-supplied.false) _ c.blocked.ensures c.if-blocked.false;
-  beyond = known c.args.thread c.if-thread-ge8.false;
-  value = free_next c.args.self.now c.args.cut c.args.thread _ (at_next c.args.self.now c.args.thread (get_or c.args.cut c.args.thread 0) c.slot.result c.slot.ensures) c.if-thread-ge8.false c.if-done-self.false _ c.supplied.ensures _ c.blocked.ensures c.if-not-supplied.false c.if-blocked.false;
-  more = λ e h. (c.if-thread-ge8.false, omega arith);
-}
+pub returns-then-blocked-clause-answers : goal.returns-then-blocked-clause-answers
+returns-then-blocked-clause-answers c = λ es made reached.
+    blocked es c.args.self.now made c.args.cut reached c.args.thread c.if-thread-ge8.false c.if-done-self.false _ (at_next c.args.self.now c.args.thread (get_or c.args.cut c.args.thread 0) c.slot.result c.slot.ensures)
+    (c.supplied.ensures.0 c.if-not-supplied.false) _ c.blocked.ensures c.if-blocked.true
+
+pub returns-then-blocked-clause-value : goal.returns-then-blocked-clause-value
+returns-then-blocked-clause-value c =
+    blocked_next c.args.self.now c.args.cut c.args.thread _ (at_next c.args.self.now c.args.thread (get_or c.args.cut c.args.thread 0) c.slot.result c.slot.ensures) c.if-thread-ge8.false c.if-done-self.false _ c.supplied.ensures _ c.blocked.ensures c.if-not-supplied.false c.if-blocked.true
+
+pub returns-clause-answers : goal.returns-clause-answers
+returns-clause-answers c = λ es made reached.
+    follows_next es c.args.self.now made c.args.cut reached c.args.thread c.if-thread-ge8.false c.if-done-self.false _ (at_next c.args.self.now c.args.thread (get_or c.args.cut c.args.thread 0) c.slot.result c.slot.ensures)
+    (c.supplied.ensures.0 c.if-not-supplied.false) _ c.blocked.ensures c.if-blocked.false
+
+pub returns-clause-value : goal.returns-clause-value
+returns-clause-value c =
+    free_next c.args.self.now c.args.cut c.args.thread _ (at_next c.args.self.now c.args.thread (get_or c.args.cut c.args.thread 0) c.slot.result c.slot.ensures) c.if-thread-ge8.false c.if-done-self.false _ c.supplied.ensures _ c.blocked.ensures c.if-not-supplied.false c.if-blocked.false
