@@ -33,6 +33,7 @@ impl ReplayRefusal {
         }
     }
 
+    // Stays a match: variants that hold a position can be given no numbers.
     pub fn number(self) -> u8
         ensures { result ≡ replay_number self }
     {

@@ -1,4 +1,4 @@
-use Rattle.std.proofs.Common.{rules, ◌≡◌, ℕ, suc, ◌+◌, ◌<◌, ◌≤◌, List, Ok, Err, [], ◌∷◌, ◌++◌, length, get_or, take, set, sym, refl, ap, ◌∙◌, subst, ap₂, arith, take_all}
+use Rattle.std.proofs.Common.{rules, ◌≡◌, ℕ, suc, ◌+◌, ◌<◌, ◌≤◌, List, Ok, Err, Result, [], ◌∷◌, ◌++◌, length, get_or, take, set, sym, refl, ap, ◌∙◌, subst, ap₂, arith, take_all}
 use Rattle.std.proofs.lemmas.List.{length-set, take_more}
 use Rattle.std.proofs.lemmas.Bool.Decides.{Decides-at}
 use Rattle.events.specs.declared.event.Action.{Action}
@@ -9,6 +9,7 @@ use Rattle.order.specs.Runs.{thread_list, RunOf}
 use Rattle.order.specs.Cuts.{Cut, Reach}
 use Rattle.order.specs.Cuts.Reach.{start, onward}
 use Rattle.order.specs.Reached.{cut_of}
+use Rattle.monitor.specs.declared.runs.Verdict.{Verdict}
 use Rattle.monitor.specs.Meaning.{Meaning, ran}
 use Rattle.monitor.proofs.Ends.{end_tells}
 use Rattle.follow.specs.declared.tables.Tables.{Tables}
@@ -36,6 +37,12 @@ stepped m code new a e h q = h ∙ ap (m.step code) q
 abbrev SoFar : Meaning → List Event → List ℕ → List ℕ → ℕ → ℕ → Type 0
 SoFar m es ts cut k code = (r : List ℕ) × Reach es r (cut_of cut) × (thread_list es r ≡ take k ts) × (code ≡ ran m (actions_of es r))
 
+-- where no event of the thread comes next
+refused_at : (es : List Event) (n : ℕ) (ts : List ℕ) (p : ℕ) (why : NoNext) → RefusedAt es ts p (λ t c. (t < n) × Answers es c t (Err why)) → Refused es n ts (refusal_at p why)
+refused_at es n ts p because.Done h = h
+refused_at es n ts p because.Missing h = h
+refused_at es n ts p because.Blocked h = h
+
 module _ (m : Meaning) (es : List Event) (v : Tables) (made : MadeOf es v) (ts cut : List ℕ) (k code : ℕ)
     (even : length ts ≡ v.total) (ahead : k < length ts) (far : SoFar m es ts cut k code) where
   at : (P : ℕ → Cut → Type 0) → P (get_or ts k 0) (cut_of cut) → RefusedAt es ts (k + 1) P
@@ -46,6 +53,15 @@ module _ (m : Meaning) (es : List Event) (v : Tables) (made : MadeOf es v) (ts c
     record { even = even ∙ made.total; ahead = ahead; events = far.0; reach = far.1; threads = far.2 },
     h,
   )
+
+  none_comes : (n : ℕ) → ThreadsBelow es n → get_or ts k 0 < n
+      → (why : NoNext) (answer : Result Event NoNext) → answer ≡ Err why → Answers es (cut_of cut) (get_or ts k 0) answer
+      → (outcome : Result Verdict ReplayRefusal) → outcome ≡ Err (refusal_at (k + 1) why) → Outcome m es n ts outcome
+  none_comes n few below why answer told right outcome is =
+      subst (Outcome m es n ts) (sym is)
+      (refuse es v made n few ts (refusal_at (k + 1) why)
+      (refused_at es n ts (k + 1) why
+      (at (λ t d. (t < n) × Answers es d t (Err why)) (below, subst (Answers es (cut_of cut) (get_or ts k 0)) told right))))
 
   -- one more
   on : (e : Event) → Answers es (cut_of cut) (get_or ts k 0) (Ok e) → get_or ts k 0 < length cut → (new : ℕ) → new ≡ m.step code (action_of e)
@@ -75,24 +91,13 @@ returns-then-thread-count g c = λ es made few.
     (at (g.M.Monitor.meaning c.args.monitor.now) es c.args.tables.now made c.args.threads.now c.loop-k.cut c.loop-k.k-counter c.loop-k.code
     (c.if-threads-total.false ∙ c.total.ensures) c.loop-k-test.true (c.loop-k.invariant.0 es made) (λ t d. c.args.count ≤ t) c.if-thread-count.true)
 
--- where no event of the thread comes next
-refused_at : (es : List Event) (n : ℕ) (ts : List ℕ) (p : ℕ) (why : NoNext) → RefusedAt es ts p (λ t c. (t < n) × Answers es c t (Err why)) → Refused es n ts (refusal_at p why)
-refused_at es n ts p because.Done h = h
-refused_at es n ts p because.Missing h = h
-refused_at es n ts p because.Blocked h = h
-
 pub returns-in_err-event : goal.returns-in_err-event
 returns-in_err-event g c = λ es made few.
     let told : (why : NoNext) × (c.next.result ≡ Err why) × (c.from_residual.result ≡ Err (refusal_at (c.loop-k.k-counter + 1) why)) = search rules in
     let far = c.loop-k.invariant.0 es made in
-    let ts : List ℕ = c.args.threads.now in
-    let stops : Answers es (cut_of c.loop-k.cut) (get_or ts c.loop-k.k-counter 0) (Err told.0)
-    = subst (Answers es (cut_of c.loop-k.cut) (get_or ts c.loop-k.k-counter 0)) told.1 (c.next.ensures.answers es made (far.0, far.1)) in
-    subst (Outcome (g.M.Monitor.meaning c.args.monitor.now) es c.args.count ts) (sym told.2) (refuse es c.args.tables.now made c.args.count few ts (refusal_at (c.loop-k.k-counter + 1) told.0)
-    (refused_at es c.args.count ts (c.loop-k.k-counter + 1) told.0
-    (at (g.M.Monitor.meaning c.args.monitor.now) es c.args.tables.now made ts c.loop-k.cut c.loop-k.k-counter c.loop-k.code
-    (c.if-threads-total.false ∙ c.total.ensures) c.loop-k-test.true far (λ t d. (t < c.args.count) × Answers es d t (Err told.0))
-    (c.if-thread-count.false, stops))))
+    none_comes (g.M.Monitor.meaning c.args.monitor.now) es c.args.tables.now made c.args.threads.now c.loop-k.cut c.loop-k.k-counter c.loop-k.code
+    (c.if-threads-total.false ∙ c.total.ensures) c.loop-k-test.true far c.args.count few c.if-thread-count.false
+    told.0 c.next.result told.1 (c.next.ensures.answers es made (far.0, far.1)) c.from_residual.result told.2
 
 pub loop-k-preserved : goal.loop-k-preserved
 loop-k-preserved g c =
