@@ -247,9 +247,6 @@ module _ (es : List Event) (fit : Fit es) (n : ℕ) (near : n < length es) where
     a.1,
   )
 
-  is_here : Is es e.kind e.subject n
-  is_here = record { noted = near; kind = refl; subject = refl }
-
   -- event n counts nowhere, since it is no read or release
   counted_on : (v : Tables) → ((k s b : ℕ) → Takes k s b → Is es k s n → ⊥) → Counted es n v → Counted es (suc n) v
   counted_on v no' old = record {
