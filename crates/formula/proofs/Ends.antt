@@ -1,5 +1,5 @@
 -- The whole code after an event, and at the start.
-use Rattle.std.proofs.Common.{◌≡◌, ℕ, zero, suc, ◌+◌, ◌^◌, ◌<◌, ◌≤◌, Bool, true, false, cond, not, ◌&&◌, ◌||◌, eqb, ltb, leb, ◌⊎◌, List, ℤ, sym, refl, ap, ◌∙◌, inl, inr, arith}
+use Rattle.std.proofs.Common.{◌≡◌, ℕ, zero, suc, ◌+◌, ◌^◌, ◌<◌, ◌≤◌, Bool, true, false, cond, not, ◌&&◌, ◌||◌, eqb, ltb, leb, ◌⊎◌, List, ℤ, sym, refl, ap, ◌∙◌, subst, inl, inr, arith}
 use mathlib.Core.Bool.{or-false, and-true, and-false}
 use lib.Bits.{bit_or}
 use Rattle.std.proofs.lemmas.Bool.{cases_lt, cases_order, le-leb, lt-ltb, le-ltb, eq-eqb, ne_eqb}
@@ -192,3 +192,10 @@ module _ (v n : ℕ) (nodes : List Node) (s : Sound v n nodes) (some : 0 < n) (c
 
   pub turn_one : q ≡ r
   turn_one = code_bits 62 q a.fits ∙ code_ext 62 (bit_of q) (bit_of r) same_bits ∙ sym (code_bits 62 r b.fits)
+
+-- a code that is what the step computes is the one that the rule allows
+pub settled : (v n : ℕ) (nodes : List Node) → Sound v n nodes → 0 < n → n ≤ 60 → (c : ℕ) (e : Action) (r : ℕ) → r ≡ stepped nodes n c e
+    → Turn nodes n c e r × ((q : ℕ) → Turn nodes n c e q → q ≡ r)
+settled v n nodes s some few c e r h =
+    let rule = subst (Turn nodes n c e) (sym h) (stepped_turn v n nodes s some few c e) in
+    (rule, λ q t. turn_one v n nodes s some c e q r t rule)

@@ -50,14 +50,16 @@ fn placing(word: Word, i: u8, ends: &[u8]) -> Option<(Node, u8)>
 }
 
 // The table of the formula that the words spell. None if they spell none, or are more than 60.
+#[tactic(auto, using(crate::proofs::Views::one_formula))]
 pub fn compile(words: &[Word]) -> Option<Table>
     ensures table { CompiledTo words.now result }
     ensures beyond { BlankBeyond result }
     ensures one { OneFormula words.now }
 {
-    if words.len() == 0 || words.len() > 60 {
+    if words.is_empty() || words.len() > 60 {
         return None;
     }
+    // Two arrays, and none of pairs: the nodes are handed out, and the ends serve here alone.
     let mut nodes = [Node::Mark(0); 60];
     let mut room = [0; 60];
     let ends = &mut room[..words.len()];

@@ -2,7 +2,7 @@
 ghost use Rattle.std.specs.Prelude.{◌≡◌, ◌<◌, ◌≤◌, length, take};
 
 // One subformula. It names a variable and a constant, a label, a thread, or its parts by their
-// numbers.
+// numbers. Its own enum beside Word: one enum for both would need a type for parts, empty in a word.
 #[derive(Clone, Copy, Debug, PartialEq, Eq)]
 pub enum Node {
     Eq(u8, i32),
@@ -21,6 +21,7 @@ pub enum Node {
 }
 
 // The subformulas of a formula in the order of their words, from number 0: the first `len` rows.
+// Fixed memory, since making a formula has no heap.
 #[derive(Clone, Copy)]
 pub struct Table {
     pub nodes: [Node; 60],

@@ -5,7 +5,8 @@ ghost use Rattle.formula.specs.declared.word.Word.{Word as Spoken};
 use crate::word::Word;
 use std::marker::Model;
 
-// The first 61 words of a formula: one more than a formula may have.
+// The first 61 words of a formula: one more than a formula may have. Fixed memory, since making a
+// formula has no heap, and no generic list: a generic struct can hold no array of its parameter.
 #[derive(Drop)]
 pub(crate) struct Spelling {
     words: [Word; 61],

@@ -7,10 +7,10 @@ ghost use Rattle.formula.specs.Step.{met, truth, initial, started, stepped, writ
 use crate::formula::Formula;
 use crate::node::Node;
 use codes::{has, only};
-use events::{Action, Starts};
+use events::{Action, Kind, Starts};
 
 // The bits of a code beside those of the subformulas: whether there was an event yet, and whether the
-// formula was false after one.
+// formula was false after one. A code stays a number, as every monitor hands one out.
 pub(crate) const BEGUN: u8 = 60;
 
 pub(crate) const BAD: u8 = 61;
@@ -18,7 +18,7 @@ pub(crate) const BAD: u8 = 61;
 fn is_write(action: Action, variable: u8) -> bool
     ensures { result ≡ writes action variable }
 {
-    action.kind == 2 && action.subject == variable
+    action.kind == Kind::Write as u8 && action.subject == variable
 }
 
 // Whether the subformula is a comparison that is true of the value.
@@ -46,7 +46,7 @@ fn holds(node: Node, i: u8, code: u64, next: u64, action: Action) -> bool
         } else {
             own
         },
-        Node::Mark(k) => action.kind == 0 && action.subject == k,
+        Node::Mark(k) => action.kind == Kind::Internal as u8 && action.subject == k,
         Node::By(t) => action.thread == t,
         Node::Not(f) => !has(next, f),
         Node::Before(f) => later && has(code, f),

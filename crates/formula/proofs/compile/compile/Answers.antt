@@ -1,30 +1,16 @@
-use Rattle.std.proofs.Common.{◌≡◌, length, sym, refl, ap, ◌∙◌, inl, inr, ⊎_elim, subst, arith, length-set, length-take}
+use Rattle.std.proofs.Common.{◌≡◌, ◌<◌, length, sym, ◌∙◌, inl, inr, ⊎_elim, subst, arith, length-set}
+use Rattle.std.proofs.lemmas.Bool.{eqb-true, eqb-false}
 use Rattle.std.proofs.lemmas.List.{drop-set-lt, drop-replicate}
 use Rattle.formula.specs.declared.node.Node.TheVariants.{Mark}
 use Rattle.formula.specs.Truth.{size}
 use Rattle.formula.specs.Words.{no_word, word_at, Placing, Missing, CompiledTo}
-use Rattle.formula.proofs.Backward.{rest, begun, Taken, taken}
+use Rattle.formula.proofs.Backward.{Taken, taken}
 use Rattle.formula.proofs.Spelt.{more}
-use Rattle.formula.proofs.Views.{one_formula, none_fits, same_size, stuck}
+use Rattle.formula.proofs.Views.{none_fits, same_size, stuck}
 use Rattle.formula.proofs.compile.compile.Goals as goal
 
-pub returns-then-words-eq0-clause-table : goal.returns-then-words-eq0-clause-table
-returns-then-words-eq0-clause-table c few f s = ⊎_elim (λ e. none_fits c.args.words.now (inl e) few f s) (λ h. none_fits c.args.words.now (inr h.1) few f s) c.then-words-eq0.either
-
-pub returns-then-words-eq0-clause-one : goal.returns-then-words-eq0-clause-one
-returns-then-words-eq0-clause-one c = one_formula c.args.words.now
-
-pub loop-i-init : goal.loop-i-init
-loop-i-init c =
-    let ws = c.args.words.now in
-    let whole : rest c.into_iter-i-iterator.result ≡ ws = cc (c.into_iter-i-iterator.ensures.into_iter_gives, c.rev-i-items.ensures.source, c.enumerate.ensures.source, c.iter.ensures.rest) in
-    record {
-      ahead = begun ws _ whole (cc (c.into_iter-i-iterator.ensures.into_iter_gives, c.rev-i-items.ensures.source, c.enumerate.ensures.count));
-      rows = refl;
-      ends = length-take (length ws) _ ∙ omega arith;
-      good = λ k a b. absurd (omega (arith, ap length whole));
-      blank = refl;
-    }
+pub returns-then-is_empty-clause-table : goal.returns-then-is_empty-clause-table
+returns-then-is_empty-clause-table c few f s = ⊎_elim (λ e. none_fits c.args.words.now (inl (eqb-true (length c.args.words.now) 0 (sym c.is_empty.ensures ∙ e))) few f s) (λ h. none_fits c.args.words.now (inr h.1) few f s) c.then-is_empty.either
 
 pub loop-i-preserved : goal.loop-i-preserved
 loop-i-preserved c =
@@ -58,9 +44,6 @@ returns-in_err-node-clause-table c =
     subst (CompiledTo ws) (sym c.from_residual.ensures)
     (λ few f s. stuck ws (length ws) l.nodes l.ends i t.low (λ j m u. l.invariant.good j (omega (arith, t.more)) u) miss f s.0 s.1)
 
-pub returns-in_err-node-clause-one : goal.returns-in_err-node-clause-one
-returns-in_err-node-clause-one c = one_formula c.args.words.now
-
 pub returns-then-ends-len-clause-table : goal.returns-then-ends-len-clause-table
 returns-then-ends-len-clause-table c =
     let g = c.loop-i.invariant.good 0 (omega (arith, c.in-None.ensures.steps.1.0)) (omega arith) in
@@ -70,15 +53,11 @@ returns-then-ends-len-clause-table c =
 pub returns-then-ends-len-clause-beyond : goal.returns-then-ends-len-clause-beyond
 returns-then-ends-len-clause-beyond c = c.loop-i.invariant.blank ∙ drop-replicate (length c.args.words.now) 60 (Mark 0)
 
-pub returns-then-ends-len-clause-one : goal.returns-then-ends-len-clause-one
-returns-then-ends-len-clause-one c = one_formula c.args.words.now
-
 pub returns-else-ends-len-clause-table : goal.returns-else-ends-len-clause-table
 returns-else-ends-len-clause-table c few f s =
     let ws = c.args.words.now in
-    let g = c.loop-i.invariant.good 0 (omega (arith, c.in-None.ensures.steps.1.0)) (omega arith) in
+    let none = eqb-false (length ws) 0 (sym c.is_empty.ensures ∙ c.if-is_empty.false) in
+    let some : 0 < length ws = omega (arith, none) in
+    let g = c.loop-i.invariant.good 0 (omega (arith, c.in-None.ensures.steps.1.0)) some in
     let same = same_size ws 0 f g.form s.0 g.spelt in
     c.if-ends-len.false (omega (arith, g.ends_at, same, s.1))
-
-pub returns-else-ends-len-clause-one : goal.returns-else-ends-len-clause-one
-returns-else-ends-len-clause-one c = one_formula c.args.words.now

@@ -1,6 +1,4 @@
-use Rattle.std.proofs.Common.{Err, refl, sym, ap, ◌∙◌, subst}
-use Rattle.std.proofs.lemmas.Result.{err_from_is_err_and}
-use Rattle.formula.specs.Making.{MadeFrom, WatchesText}
+use Rattle.std.proofs.Common.{refl, subst}
 use Rattle.formula.specs.Suiting.{Suited}
 use Rattle.formula.specs.Table.{Sound}
 use Rattle.formula.specs.Words.{CompiledTo}
@@ -8,15 +6,6 @@ use Rattle.formula.proofs.Made.{is_some, tabled}
 use Rattle.formula.proofs.Rows.{sound_from}
 use Rattle.formula.proofs.Stands.{watch_from}
 use Rattle.formula.proofs.rule.made.Goals as goal
-
--- a text at fault
-pub returns-in_err-spelling : goal.returns-in_err-spelling
-returns-in_err-spelling c =
-    let p = err_from_is_err_and c.from_residual.result c.from_residual.ensures.1 in
-    record {
-      made = subst (λ r. MadeFrom c.args.starts c.args.text.now r) (sym (p.1 ∙ ap Err p.2)) c.in_err-spelling.ensures;
-      watches = subst (λ r. WatchesText c.args.starts c.args.text.now r) (sym (p.1 ∙ ap Err p.2)) tt;
-    }
 
 pub unwrap-table-requires : goal.unwrap-table-requires
 unwrap-table-requires c =

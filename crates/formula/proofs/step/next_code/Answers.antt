@@ -1,13 +1,13 @@
-use Rattle.std.proofs.Common.{ℕ, ◌<◌, List, get_or, get_or-take, length-take, length, take, ◌≡◌, ◌^◌, true, false, not, ◌||◌, sym, ap, ◌∙◌, subst, arith}
+use Rattle.std.proofs.Common.{ℕ, ◌<◌, List, get_or, get_or-take, length-take, length, take, ◌≡◌, ◌^◌, true, false, not, ◌||◌, sym, ap, ◌∙◌, arith}
 use lib.Bits.{bit_or}
 use Rattle.std.proofs.lemmas.Bool.{or_left, or_right, or_from, not_from_true, not_from_false}
 use Rattle.codes.specs.Codes.{bit_of, code_of}
-use Rattle.formula.specs.Step.{eval, Turn}
+use Rattle.formula.specs.Step.{eval}
 use Rattle.formula.proofs.Evals.{only_power, from, from_none, turn_yes, turn_no}
 use Rattle.formula.specs.declared.node.Node.{Node}
 use Rattle.formula.specs.Table.{node_at, no_node}
 use Rattle.formula.proofs.Backward.{rest, begun, Taken, taken}
-use Rattle.formula.proofs.Ends.{whole_yes, whole_no, stepped_turn, turn_one}
+use Rattle.formula.proofs.Ends.{whole_yes, whole_no, settled}
 use Rattle.formula.proofs.step.next_code.Goals as goal
 use Rattle.formula.proofs.step.next_code.Goals.{then-has-via-then-has, then-has-via-else-has+then-not-has}
 
@@ -71,12 +71,8 @@ returns-then-has c =
     let value = ap (λ x. bit_or (bit_or c.loop-i.next x) c.only-all.result) (c.only.ensures ∙ only_power 60 (omega arith))
     ∙ ap (bit_or (bit_or c.loop-i.next (2 ^ 60))) (c.only-all.ensures ∙ only_power 61 (omega arith))
     ∙ whole_yes t.table.len t.table.nodes t.table.some t.table.few c.args.code c.args.action c.loop-i.next inv told in
-    let rule = subst (Turn t.table.nodes t.table.len c.args.code c.args.action) (sym value) (stepped_turn (length t.starts) t.table.len t.table.nodes t.sound t.table.some t.table.few c.args.code c.args.action) in
-    record {
-      value = value;
-      rule = rule;
-      alone = λ q s. turn_one (length t.starts) t.table.len t.table.nodes t.sound t.table.some c.args.code c.args.action q _ s rule;
-    }
+    let s = settled (length t.starts) t.table.len t.table.nodes t.sound t.table.some t.table.few c.args.code c.args.action _ value in
+    record { value = value; rule = s.0; alone = s.1 }
 
 pub returns-else-not-has : goal.returns-else-not-has
 returns-else-not-has c =
@@ -87,9 +83,5 @@ returns-else-not-has c =
     or_from _ _ (sym c.if-has.ensures) (not_from_true _ (sym c.if-not-has.ensures)) in
     let value = ap (bit_or c.loop-i.next) (c.only.ensures ∙ only_power 60 (omega arith))
     ∙ whole_no t.table.len t.table.nodes t.table.some t.table.few c.args.code c.args.action c.loop-i.next inv told in
-    let rule = subst (Turn t.table.nodes t.table.len c.args.code c.args.action) (sym value) (stepped_turn (length t.starts) t.table.len t.table.nodes t.sound t.table.some t.table.few c.args.code c.args.action) in
-    record {
-      value = value;
-      rule = rule;
-      alone = λ q s. turn_one (length t.starts) t.table.len t.table.nodes t.sound t.table.some c.args.code c.args.action q _ s rule;
-    }
+    let s = settled (length t.starts) t.table.len t.table.nodes t.sound t.table.some t.table.few c.args.code c.args.action _ value in
+    record { value = value; rule = s.0; alone = s.1 }
