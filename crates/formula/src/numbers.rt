@@ -1,5 +1,5 @@
 // Numbers in the text of a formula.
-ghost use Rattle.std.specs.Prelude.{◌≡◌, ◌≤◌, length, take, drop};
+ghost use Rattle.std.specs.Prelude.{◌≡◌, ◌+◌, ◌≤◌, length, take, drop};
 ghost use Rattle.formula.specs.Reading.{digits, number_width, ReadsNumber, ReadsPair};
 
 use text::{Number, TextFault, place_at};
@@ -40,8 +40,7 @@ pub(crate) fn number_at<N: Number>(text: &[u8], from: usize) -> Result<N, TextFa
 
 // The variable that begins at `from`, and the constant behind it.
 pub(crate) fn pair_at(text: &[u8], from: usize) -> Result<(u8, i32), TextFault>
-    requires few { length text.now ≤ 60000 }
-    requires low { from ≤ 70000 }
+    requires { from ≤ length text.now + 4 }
     ensures { ReadsPair text.now from result }
 {
     let variable = number_at::<u8>(text, from)?;

@@ -15,8 +15,7 @@ fn byte_at(text: &[u8], at: usize) -> u8
 
 // The word behind the bracket at `at`, which its first two letters tell, with its numbers.
 pub(crate) fn word_at(text: &[u8], at: usize) -> Result<Word, TextFault>
-    requires few { length text.now ≤ 60000 }
-    requires low { at < length text.now }
+    requires { at < length text.now }
     ensures { ReadsWord text.now at result }
 {
     match (byte_at(text, at + 1), byte_at(text, at + 2)) {

@@ -9,7 +9,6 @@ use text::TextFault;
 // The words of the formula whose text this is. All are read, so that the first number out of range
 // is found wherever it stands.
 pub(crate) fn spell(text: &[u8]) -> Result<Spelling, TextFault>
-    requires { length text.now ≤ 60000 }
     ensures { SpellsText text.now result }
 {
     let mut spelling = Spelling::new();
