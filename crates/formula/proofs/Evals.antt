@@ -4,18 +4,13 @@ use mathlib.Core.Bool.{or-false, and-true, and-false}
 use lib.Bits.{bit_or}
 use Rattle.std.proofs.lemmas.Bool.{ltb-true, and_parts, cases_order, lt-leb, le-leb, lt-ltb, eq-eqb, ne_eqb}
 use Rattle.std.proofs.lemmas.Bool.Decides.{nat_tests}
-use Rattle.codes.specs.Codes.{bit_of, code_of, only_bit}
+use Rattle.codes.specs.Codes.{bit_of, code_of}
 use Rattle.codes.proofs.Codes.{code_ext, code_none, or_code, only_code, bit_code}
 use Rattle.events.specs.declared.event.Action.{Action}
 use Rattle.formula.specs.declared.node.Node.{Node}
 use Rattle.formula.specs.declared.node.Node.TheVariants.{Eq, Lt, Gt, Mark, By, Not, And, Or, Implies, Before, Once, Always, Since}
 use Rattle.formula.specs.Table.{node_at, Inside, inside, between, Sound}
 use Rattle.formula.specs.Step.{truth, eval}
-
--- the code of one bit, where it has a place
-pub only_power : (s : ℕ) → s < 64 → only_bit s ≡ 2 ^ s
-unfolding only_bit
-only_power s h = let low : ltb s 64 ≡ true = lt-ltb s 64 h in rw low
 
 between_parts : (i n f : ℕ) → between i n f ≡ true → (i < f) × (f < n)
 between_parts i n f h =

@@ -1,4 +1,5 @@
-// Numbers in the text of a formula.
+// Numbers in the text of a formula. The text and a place in it stay two parameters: each call is at
+// another place, where a struct of the two would be made anew.
 ghost use Rattle.std.specs.Prelude.{◌≡◌, ◌+◌, ◌≤◌, length, take, drop};
 ghost use Rattle.formula.specs.Reading.{digits, number_width, ReadsNumber, ReadsPair};
 

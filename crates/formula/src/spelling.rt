@@ -6,7 +6,7 @@ use crate::word::Word;
 use std::marker::Model;
 
 // The first 61 words of a formula: one more than a formula may have. Fixed memory, since making a
-// formula has no heap, and no generic list: a generic struct can hold no array of its parameter.
+// formula has no heap, and not one type with Table, which is filled from its end.
 #[derive(Drop)]
 pub(crate) struct Spelling {
     words: [Word; 61],

@@ -3,7 +3,8 @@ use lib.Bits.{bit_or}
 use Rattle.std.proofs.lemmas.Bool.{or_left, or_right, or_from, not_from_true, not_from_false}
 use Rattle.codes.specs.Codes.{bit_of, code_of}
 use Rattle.formula.specs.Step.{eval}
-use Rattle.formula.proofs.Evals.{only_power, from, from_none, turn_yes, turn_no}
+use Rattle.codes.proofs.Bitwise.{only_pow}
+use Rattle.formula.proofs.Evals.{from, from_none, turn_yes, turn_no}
 use Rattle.formula.specs.declared.node.Node.{Node}
 use Rattle.formula.specs.Table.{node_at, no_node}
 use Rattle.formula.proofs.Backward.{rest, begun, Taken, taken}
@@ -38,7 +39,7 @@ loop-i-preserved-then-holds c =
     let x = item t.table.nodes t.table.len i c.in-Some.node.now k.low k.item in
     record {
       ahead = k.ahead;
-      truths = ap (bit_or l.next) (c.only-next.ensures ∙ only_power i (omega (arith, t.table.few, x.0)))
+      truths = ap (bit_or l.next) (c.only-next.ensures ∙ only_pow i (omega (arith, t.table.few, x.0)))
           ∙ turn_yes (length t.starts) t.table.len t.table.nodes t.sound t.table.few c.args.code c.args.action i (length (rest l.i-iterator)) l.next c.in-Some.node.now x.0 k.more x.1 l.invariant.truths (sym c.if-holds.ensures)
           ∙ ap (λ j. code_of 62 (from t.table.len (eval t.table.len t.table.nodes (bit_of c.args.code) c.args.action) j)) k.here;
     }
@@ -68,8 +69,8 @@ returns-then-has c =
       | then-has-via-then-has w ↦ or_left _ _ (sym w.if-has.ensures)
       | then-has-via-else-has+then-not-has w ↦ or_right _ _ (not_from_false _ (sym w.if-not-has.ensures))
     ] in
-    let value = ap (λ x. bit_or (bit_or c.loop-i.next x) c.only-all.result) (c.only.ensures ∙ only_power 60 (omega arith))
-    ∙ ap (bit_or (bit_or c.loop-i.next (2 ^ 60))) (c.only-all.ensures ∙ only_power 61 (omega arith))
+    let value = ap (λ x. bit_or (bit_or c.loop-i.next x) c.only-all.result) (c.only.ensures ∙ only_pow 60 (omega arith))
+    ∙ ap (bit_or (bit_or c.loop-i.next (2 ^ 60))) (c.only-all.ensures ∙ only_pow 61 (omega arith))
     ∙ whole_yes t.table.len t.table.nodes t.table.some t.table.few c.args.code c.args.action c.loop-i.next inv told in
     let s = settled (length t.starts) t.table.len t.table.nodes t.sound t.table.some t.table.few c.args.code c.args.action _ value in
     record { value = value; rule = s.0; alone = s.1 }
@@ -81,7 +82,7 @@ returns-else-not-has c =
     let inv = c.loop-i.invariant.truths ∙ ap (λ i. code_of 62 (from t.table.len (eval t.table.len t.table.nodes (bit_of c.args.code) c.args.action) i)) end in
     let told : (bit_of c.args.code 61 || not (bit_of c.loop-i.next 0)) ≡ false =
     or_from _ _ (sym c.if-has.ensures) (not_from_true _ (sym c.if-not-has.ensures)) in
-    let value = ap (bit_or c.loop-i.next) (c.only.ensures ∙ only_power 60 (omega arith))
+    let value = ap (bit_or c.loop-i.next) (c.only.ensures ∙ only_pow 60 (omega arith))
     ∙ whole_no t.table.len t.table.nodes t.table.some t.table.few c.args.code c.args.action c.loop-i.next inv told in
     let s = settled (length t.starts) t.table.len t.table.nodes t.sound t.table.some t.table.few c.args.code c.args.action _ value in
     record { value = value; rule = s.0; alone = s.1 }

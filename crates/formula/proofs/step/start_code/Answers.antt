@@ -4,7 +4,7 @@ use lib.Bits.{bit_or}
 use Rattle.formula.specs.Meant.{starts_of}
 use Rattle.formula.specs.Step.{initial, started}
 use Rattle.formula.specs.Table.{node_at, no_node}
-use Rattle.formula.proofs.Evals.{only_power}
+use Rattle.codes.proofs.Bitwise.{only_pow}
 use Rattle.formula.proofs.Ends.{begun, begun_none, begun_yes, begun_no}
 use Rattle.formula.proofs.step.start_code.Goals as goal
 use Rattle.formula.proofs.step.start_code.Goals.{then-begins, else-begins}
@@ -25,7 +25,7 @@ loop-i-preserved c =
     ap (initial t.starts) (sym (same t.table.nodes c.as_slice-node-items.result.now t.table.len i c.as_slice-node-items.ensures.nodes low)) in
     elim c.if-begins.branch [
       | then-begins w ↦ w.code-is
-          ∙ ap (bit_or c.loop-i.code) (w.only-code.ensures ∙ only_power i (omega arith))
+          ∙ ap (bit_or c.loop-i.code) (w.only-code.ensures ∙ only_pow i (omega arith))
           ∙ ap (λ x. bit_or x (2 ^ i)) c.loop-i.invariant
           ∙ begun_yes (starts_of t) t.table.nodes i (omega arith) (known ∙ sym w.if-begins.ensures)
       | else-begins w ↦ w.code-is ∙ c.loop-i.invariant ∙ begun_no (starts_of t) t.table.nodes i (known ∙ sym w.if-begins.ensures)
