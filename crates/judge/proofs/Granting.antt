@@ -6,8 +6,8 @@ use Rattle.events.specs.declared.event.Event.{Event}
 use Rattle.events.specs.First.{first_fit}
 use Rattle.events.specs.Noting.{Opening, is_void, Noted}
 use Rattle.trace.specs.declared.Trace.{Trace}
-use Rattle.trace.specs.Meaning.{opening_of, noted_of, rows_of}
-use Rattle.trace.proofs.Bounds.{few_threads, few_starts}
+use Rattle.trace.specs.Meaning.{opening_of, noted_of}
+use Rattle.trace.proofs.Bounds.{opening_few}
 use Rattle.rows.specs.declared.list.Full.{Full}
 use Rattle.explore.specs.System.{System}
 use Rattle.explore.specs.Listing.{Holds}
@@ -71,10 +71,10 @@ module _ (o : Opening) (es : List Event) (m : Meaning) (recorded : Recorded o es
 -- What a trace gives: its list is noted, of few threads and variables.
 module _ (t : Trace) (noted : Noted (opening_of t) (noted_of t)) where
   pub recorded_of : Recorded (opening_of t) (noted_of t) (opening_of t).threads
-  recorded_of = record { noted = noted; few = few_threads t.state.setting (length (rows_of t)); threads = refl }
+  recorded_of = record { noted = noted; few = (opening_few t).0; threads = refl }
 
   small_of : Small (opening_of t)
-  small_of = (few_threads t.state.setting (length (rows_of t)), few_starts t.state.setting (length (rows_of t)))
+  small_of = opening_few t
 
   module _ (seen : List Event) (is : seen ≡ noted_of t) where
     -- the tables that are made of its events, as they are read, are those of its list

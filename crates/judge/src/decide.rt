@@ -42,6 +42,7 @@ pub(crate) fn decide<M: Monitor>(
 {
     match first_bad(rows, monitor, events) {
         Some(row) => {
+            // No answer is needed: the path is as long as the list of events, and there is room for it.
             let _ = path_back(rows, row, threads);
             Verdict::Found
         }

@@ -7,7 +7,8 @@ use pairs::Pair;
 use rows::Keyed;
 
 // A pair of a cut and a code, the row that it was first found from, and the thread whose event led
-// from there. Row 0, which nothing led to, has 0 and 255.
+// from there. Row 0, which nothing led to, has 0 and 255: these stay plain numbers, since users read
+// search rows in this form.
 #[derive(Clone, Copy, Debug)]
 pub struct SearchRow {
     pub pair: Pair,

@@ -1,10 +1,10 @@
 -- What is so of all maps that are written.
-use Rattle.std.proofs.Common.{◌≡◌, ℕ, ◌<◌, ◌≤◌, Bool, true, false, cond, eqb, ltb, List, ◌++◌, length, take, drop, Some, None, Ok, Option, Result, sym, refl, ◌∙◌, subst, ap₂, arith}
+use Rattle.std.proofs.Common.{◌≡◌, ℕ, ◌<◌, ◌≤◌, cond, eqb, ltb, List, ◌++◌, length, take, drop, Some, None, Ok, Option, Result, sym, ◌∙◌, subst, ap₂, arith}
 use Rattle.std.proofs.lemmas.List.{take-append-drop}
-use Rattle.std.proofs.lemmas.Bool.{cond_both, cond-false, ne_eqb, le-ltb, ltb-false}
+use Rattle.std.proofs.lemmas.Bool.{cond_both, cond-false, ne_eqb, le-ltb}
 use Rattle.events.specs.declared.event.Event.{Event}
 use Rattle.events.specs.First.{first_fit}
-use Rattle.events.specs.Noting.{Opening, is_void, subjects, Noted}
+use Rattle.events.specs.Noting.{Opening, subjects, Noted}
 use Rattle.order.specs.declared.row.Row.{Row}
 use Rattle.order.specs.Trace.{kind_at}
 use Rattle.order.specs.Maps.{MapOf}
@@ -44,15 +44,6 @@ one_as None o es n before after after' r s g h =
 
 pub one_mapped : OneMapped
 one_mapped o es n before after after' r s = one_as (first_fit (map_tests o es (length before))) o es n before after after' r s
-
--- where nothing is refused there are rows enough
-passed : (a b : Bool) (x y : MapRefusal) → None ≡ cond a (Some x) (cond b (Some y) None) → b ≡ false
-passed true b x y e = let z : ◌≡◌ {A = ℕ} 0 1 = cc in absurd (omega arith)
-passed false true x y e = let z : ◌≡◌ {A = ℕ} 0 1 = cc in absurd (omega arith)
-passed false false x y e = refl
-
-pub rows_enough : (o : Opening) (es : List Event) (room : ℕ) → None ≡ first_fit (map_tests o es room) → length es ≤ room
-rows_enough o es room e = ltb-false room (length es) (passed (is_void o) (ltb room (length es)) _ _ e)
 
 subjects_few : (o : Opening) (k : ℕ) → length o.starts ≤ 32 → subjects o k ≤ 32
 subjects_few o k h =

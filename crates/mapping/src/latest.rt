@@ -8,6 +8,9 @@ use crate::clocks::{joined, ticked};
 use events::{Event, Kind};
 use order::Row;
 
+// What is asked of an event here is the one fact `Bounded`. The type of events cannot keep it, since
+// their fields are open.
+
 // Each thread's clock, and the rows of the latest write of each variable and of the latest acquire of
 // each lock.
 #[derive(Drop)]

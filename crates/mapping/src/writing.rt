@@ -46,6 +46,7 @@ fn granted(trace: &Trace, room: usize) -> Result<(), MapRefusal>
 
 // Writes one row for each noted event, by thread and then by place, and answers how many; rows
 // beyond stay as they were. A refusal leaves every row.
+#[tactic(auto, using(crate::proofs::Laws::equal_mapped, crate::proofs::Laws::one_mapped))]
 pub fn map(trace: &Trace, rows: &mut [Row]) -> Result<usize, MapRefusal>
     ensures mapped { Mapped (opening_of trace.now) (noted_of trace.now) rows.old result rows.new }
     ensures equal { EqualMapped }

@@ -1,5 +1,6 @@
 -- The scan's clocks are the counts.
 use Rattle.std.proofs.Common.{◌≡◌, ℕ, zero, suc, ◌<◌, ◌≤◌, max, cond, ◌⊎◌, List, length, get_or, sym, refl, ap, ◌∙◌, subst, inl, inr, arith}
+use Rattle.std.proofs.Math.Nat.{le-max_left, le-max_right}
 use Rattle.std.proofs.lemmas.Bool.{cases_lt, cases_eq, eq-eqb, ne_eqb}
 use Rattle.events.specs.declared.event.Event.{Event}
 use Rattle.order.specs.Trace.{blank, thread_at, place_at, Reads, Writes}
@@ -48,12 +49,6 @@ put_own t u c v e = ap (λ b. cond b c (v u)) (eq-eqb t u e)
 put_other : (t u : ℕ) (c : Clock) (v : ℕ → Clock) → (t ≡ u → ⊥) → put t c v u ≡ v u
 put_other t u c v e = ap (λ b. cond b c (v u)) (ne_eqb t u e)
 
-max_left : (a b : ℕ) → a ≤ max a b
-max_left a b = omega arith
-
-max_right : (a b : ℕ) → b ≤ max a b
-max_right a b = omega arith
-
 max_one : (a b : ℕ) → (max a b ≡ a) ⊎ (max a b ≡ b)
 max_one a b = elim (cases_lt a b) [ inl l ↦ inr (omega arith) | inr l ↦ inl (omega arith) ]
 
@@ -95,12 +90,12 @@ module _ (es : List Event) (sound : Sound es) (k : ℕ) (l : k < length es) (s :
   base_low : (j : ℕ) → base j ≤ c j
   base_low j =
       elim (cases_eq here.kind 1) [
-        | inl e ↦ subst (λ (d : Clock). base j ≤ d j) (sym (clock_read e)) (max_left (base j) (s.writes here.subject j))
+        | inl e ↦ subst (λ (d : Clock). base j ≤ d j) (sym (clock_read e)) (le-max_left (base j) (s.writes here.subject j))
         | inr e ↦ subst (λ (d : Clock). base j ≤ d j) (sym (clock_plain e)) (omega arith)
       ]
 
   read_low : here.kind ≡ 1 → (j : ℕ) → s.writes here.subject j ≤ c j
-  read_low e j = subst (λ (d : Clock). s.writes here.subject j ≤ d j) (sym (clock_read e)) (max_right (base j) (s.writes here.subject j))
+  read_low e j = subst (λ (d : Clock). s.writes here.subject j ≤ d j) (sym (clock_read e)) (le-max_right (base j) (s.writes here.subject j))
 
   clock_cases : (j : ℕ) → (c j ≡ base j) ⊎ ((here.kind ≡ 1) × (c j ≡ s.writes here.subject j))
   clock_cases j =

@@ -9,14 +9,6 @@ use Rattle.order.proofs.Places.{same_event}
 use Rattle.order.proofs.Cuts.{Steps}
 use Rattle.order.proofs.Paths.{path}
 
-head_of : ℕ → List ℕ → ℕ
-head_of d [] = d
-head_of d (x ∷ xs) = x
-
-tail_of : List ℕ → List ℕ
-tail_of [] = []
-tail_of (x ∷ xs) = xs
-
 module _ (es : List Event) (sound : Sound es) where
   steps_tail : (c : Cut) (i : ℕ) (r : List ℕ) → Steps es c (i ∷ r) → Steps es (advance (thread_at es i) c) r
   steps_tail c i r s = record { follows = λ k h. s.follows (suc k) (omega arith); ends = s.ends }

@@ -18,7 +18,7 @@ use Rattle.explore.specs.System.{System, Steps, Goes, here, along}
 use Rattle.explore.specs.Levels.{Levelled, Tells}
 use Rattle.monitor.specs.Meaning.{Meaning}
 use Rattle.pairs.specs.declared.pair.Pair.{Pair}
-use Rattle.pairs.specs.Pairs.{pair_of, pairs, full, hit, same, total, size_of}
+use Rattle.pairs.specs.Pairs.{pair_of, pairs, full, same, total, size_of}
 use Rattle.pairs.specs.Judged.{LeadsTo}
 use Rattle.pairs.proofs.Steps.{Given, cut_advanced, zeros, next_is}
 use Rattle.pairs.proofs.Reaching.{decides_full}
@@ -217,9 +217,3 @@ module _ (es : List Event) (n : ℕ) (m : Meaning) (g : Given es n) where
             omega (arith, ok.1 t b, full_all x.cut (d.0 f) t, h t b, count_all t))),
         (λ e. d.1 (all_full x.cut (λ t l. ap (λ c. get_or c t 0) e ∙ h t l ∙ count_all t))),
       )
-
-  -- so a hit can be told by a test that compares the counts
-  pub hit_by_counts : (counts : List ℕ) → length counts ≡ 8 → ((t : ℕ) → t < 8 → get_or counts t 0 ≡ count_of t es)
-      → (p : List ℕ) (x : Pair) → LeadsTo es n m p x → (b : Bool) → Decides b (x.cut ≡ counts) → hit es m x ≡ (b && m.bad x.code)
-  hit_by_counts counts w h p x go b d =
-      ap (λ f. f && m.bad x.code) (one_test (full es x.cut) b (full_by_counts counts w h p x go) d)
