@@ -1,5 +1,6 @@
 -- A list of calls that is performed in place, from its front on.
-use Rattle.std.proofs.Common.{◌≡◌, ℕ, zero, suc, ◌+◌, ◌<◌, ◌≤◌, List, [], ◌∷◌, ◌++◌, map, length, get_or, take, drop, set, sym, refl, ap, ◌∙◌, subst, arith}
+use Rattle.std.proofs.Common.{◌≡◌, ℕ, ◌+◌, ◌<◌, ◌≤◌, List, [], ◌∷◌, ◌++◌, map, length, get_or, take, drop, set, sym, refl, ap, ◌∙◌, subst, arith}
+use Rattle.std.proofs.Math.ListN.{get_or-map}
 use Rattle.std.proofs.lemmas.List.{drop-drop, drop-set-lt, drop_more, take_more_set, take_all, map-set, map_push, map_more, set-get_or, length-drop}
 use Rattle.events.specs.declared.event.Event.{Event}
 use Rattle.events.specs.Noting.{Opening}
@@ -16,11 +17,6 @@ pub record Going {X H : Type 0} (f : X → Act) (g : X → Outcome) (h : X → H
 
 pub going_none : {X H : Type 0} (f : X → Act) (g : X → Outcome) (h : X → H) (o : Opening) (es : List Event) (cs : List X) → Going f g h o es cs cs 0 o es
 going_none f g h o es cs = record { rest = refl; done = none_performed o es; keeps = refl; opens = refl }
-
-get_d_through : {X H : Type 0} (h : X → H) (xs : List X) (i : ℕ) (d : X) → get_or (map h xs) i (h d) ≡ h (get_or xs i d)
-get_d_through h [] i d = refl
-get_d_through h (x ∷ xs) zero d = refl
-get_d_through h (x ∷ xs) (suc i) d = get_d_through h xs i d
 
 module _ {X H : Type 0} (f : X → Act) (g : X → Outcome) (h : X → H) (o : Opening) (before : List Event) (cs ds : List X) (i : ℕ) (p : Opening) (es : List Event)
     (w : Going f g h o before cs ds i p es) where
@@ -48,7 +44,7 @@ module _ {X H : Type 0} (f : X → Act) (g : X → Outcome) (h : X → H) (o : O
             (subst (λ (xs : List Outcome). Performed o before (map f (take i cs) ++ f d ∷ []) xs fs) (sym outs) more);
         keeps =
             map-set h ds i e
-            ∙ ap (λ (y : H). set (map h ds) i y) (stays ∙ sym (get_d_through h ds i b))
+            ∙ ap (λ (y : H). set (map h ds) i y) (stays ∙ sym (get_or-map h ds i b))
             ∙ set-get_or (map h ds) i (h b)
             ∙ w.keeps;
         opens = opens ∙ w.opens;

@@ -1,11 +1,11 @@
 -- Every list of calls is lawful.
-use Rattle.std.proofs.Common.{◌≡◌, ℕ, ◌<◌, ◌≤◌, List, [], length, take, Some, Ok, Result, sym, refl, ap, ◌∙◌, subst, ap₂, arith}
+use Rattle.std.proofs.Common.{◌≡◌, ℕ, ◌<◌, ◌≤◌, List, [], length, Some, Ok, Result, sym, refl, ap, ◌∙◌, subst, ap₂, arith}
 use Rattle.std.specs.List.{slice_get}
+use Rattle.std.proofs.lemmas.Option.{slice_get_within}
 use Rattle.events.specs.declared.event.Event.{Event}
 use Rattle.events.specs.Noting.{Opening, opened, Noted}
 use Rattle.events.specs.Noting.Noted.{none}
 use Rattle.order.specs.declared.row.Row.{Row}
-use Rattle.order.specs.Runs.{RunAmong}
 use Rattle.order.proofs.Noting.{opened_small}
 use Rattle.monitor.specs.declared.runs.Verdict.{Verdict}
 use Rattle.monitor.specs.Meaning.{Meaning}
@@ -21,9 +21,9 @@ use Rattle.judge.specs.Said.{SaysNone, SaysFound}
 use Rattle.judge.proofs.Saying.{judged_says}
 use Rattle.judge.proofs.Once.{judged_once}
 use Rattle.calls.specs.Replays.{Replays}
-use Rattle.calls.specs.Acts.{Act, to_note, to_map, to_replay, to_judge, Outcome, gave_note, gave_map, gave_replay, gave_judge, gave_none, Gives, ahead, Performed}
-use Rattle.calls.specs.Law.{MapAt, ReplayAt, JudgeAt, MapsTell, Lawful, EveryListLawful, LawfulFromOpening}
-use Rattle.calls.proofs.Places.{nth_below, nth_has, same_places}
+use Rattle.calls.specs.Acts.{Act, to_note, to_map, to_replay, to_judge, Outcome, gave_map, gave_replay, gave_judge, Gives, ahead, Performed}
+use Rattle.calls.specs.Law.{MapAt, JudgeAt, MapsTell, Lawful, EveryListLawful, LawfulFromOpening}
+use Rattle.calls.proofs.Places.{nth_has, same_places}
 use Rattle.calls.proofs.Replayed.{one_replay, granted}
 use Rattle.calls.proofs.Rising.{noted_ahead}
 
@@ -94,7 +94,7 @@ module _ (o : Opening) (es : List Event) (acts : List Act) (outs : List Outcome)
 
   only : (k : ℕ) (a : Act) (q : Outcome) → slice_get acts k ≡ Some a → Gives o (ahead o es acts k) a q → slice_get outs k ≡ Some q
   only k a q h g =
-      let there : k < length outs = omega (arith, nth_below acts k a h, p.as_many) in
+      let there : k < length outs = omega (arith, slice_get_within acts k a h, p.as_many) in
       let s = nth_has outs k there in
       s.1 ∙ ap Some (one_given o (ahead o es acts k) (noted_ahead o es acts k noted) few a s.0 q (p.each k a s.0 h s.1) g)
 
@@ -102,7 +102,7 @@ module _ (o : Opening) (es : List Event) (acts : List Act) (outs : List Outcome)
   again others last w =
       same_places others outs (w.as_many ∙ sym p.as_many)
       (λ k x y h g.
-      let there : k < length acts = omega (arith, nth_below others k x h, w.as_many) in
+      let there : k < length acts = omega (arith, slice_get_within others k x h, w.as_many) in
       let a = nth_has acts k there in
       one_given o (ahead o es acts k) (noted_ahead o es acts k noted) few a.0 x y (w.each k a.0 x a.1 h) (p.each k a.0 y a.1 g))
 

@@ -4,4 +4,3 @@ pub mod Replayed
 pub mod Rising
 pub mod Held
 pub mod Going
-pub mod Owned

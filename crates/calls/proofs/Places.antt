@@ -1,11 +1,6 @@
 -- Lists read at a place that may lie past the end.
-use Rattle.std.proofs.Common.{◌≡◌, ℕ, zero, suc, ◌<◌, List, [], ◌∷◌, ◌++◌, length, Some, None, sym, refl, ap, ◌∙◌, ap₂, arith}
+use Rattle.std.proofs.Common.{◌≡◌, ℕ, zero, suc, ◌<◌, List, [], ◌∷◌, ◌++◌, length, Some, refl, ap₂, arith}
 use Rattle.std.specs.List.{slice_get}
-
-pub nth_below : {X : Type 0} (xs : List X) (k : ℕ) (x : X) → slice_get xs k ≡ Some x → k < length xs
-nth_below [] k x h = let z : ◌≡◌ {A = ℕ} 0 1 = cc in absurd (omega arith)
-nth_below (y ∷ ys) zero x h = omega arith
-nth_below (y ∷ ys) (suc k) x h = let l = nth_below ys k x h in omega arith
 
 pub nth_has : {X : Type 0} (xs : List X) (k : ℕ) → k < length xs → (x : X) × (slice_get xs k ≡ Some x)
 nth_has [] k l = absurd (omega arith)

@@ -1,6 +1,7 @@
 -- Lists of calls that grow by one, and what is noted along them.
 use Rattle.std.proofs.Common.{◌≡◌, ℕ, zero, suc, ◌+◌, ◌<◌, ◌≤◌, List, [], ◌∷◌, ◌++◌, length, take, Some, None, fold, Option, sym, refl, ap, ◌∙◌, subst, inl, inr, le_refl, arith}
 use Rattle.std.specs.List.{slice_get}
+use Rattle.std.proofs.lemmas.Option.{slice_get_within}
 use Rattle.std.proofs.lemmas.List.{append-nil, append_assoc, length_push, take_all, take_at, take-append-le}
 use Rattle.std.proofs.lemmas.List.Sums.{fold_push}
 use Rattle.std.proofs.lemmas.Bool.{cases_lt}
@@ -11,7 +12,7 @@ use Rattle.events.specs.Noting.{Opening, refused, extended, Noted}
 use Rattle.events.specs.Noting.Noted.{more}
 use Rattle.calls.specs.Acts.{Act, to_note, to_map, to_replay, to_judge, Outcome, Gives, after, ahead, Performed}
 use Rattle.calls.specs.More.{Extends, OneMore, EveryCallExtends, EveryListExtends}
-use Rattle.calls.proofs.Places.{nth_below, nth_left, nth_last}
+use Rattle.calls.proofs.Places.{nth_left, nth_last}
 
 -- what is noted stays a noted list
 noted_extended : (o : Opening) (es : List Event) (a : Action) (x : Option Refusal) → refused o es a ≡ x → Noted o es → Noted o (extended x es a)
@@ -52,7 +53,7 @@ module _ (o : Opening) (before : List Event) (acts : List Act) (outs : List Outc
   last : (k : ℕ) (b : Act) (r : Outcome) → length acts ≤ k → slice_get (acts ++ a ∷ []) k ≡ Some b → slice_get (outs ++ q ∷ []) k ≡ Some r
       → Gives o (ahead o before (acts ++ a ∷ []) k) b r
   last k b r l x y =
-      let at : k ≡ length acts = omega (arith, nth_below (acts ++ a ∷ []) k b x, length_push acts a) in
+      let at : k ≡ length acts = omega (arith, slice_get_within (acts ++ a ∷ []) k b x, length_push acts a) in
       let u : Some a ≡ Some b = sym (nth_last acts a) ∙ ap (slice_get (acts ++ a ∷ [])) (sym at) ∙ x in
       let v : Some q ≡ Some r = sym (nth_last outs q) ∙ ap (slice_get (outs ++ q ∷ [])) (p.as_many ∙ sym at) ∙ y in
       let same : a ≡ b = cc in

@@ -5,24 +5,18 @@ ghost use Rattle.calls.specs.Law.{EveryListLawful, LawfulFromOpening};
 ghost use Rattle.calls.specs.More.{EveryCallExtends, EveryListExtends};
 
 // One answer to a replay is right.
-pub fn one_replay() -> u8
+pub fn one_replay()
     ensures { OneReplay }
-{
-    0
-}
+{}
 
 // Every list of calls is lawful.
-pub fn every_list() -> u8
+pub fn every_list()
     ensures noted { EveryListLawful }
     ensures opened { LawfulFromOpening }
-{
-    0
-}
+{}
 
 // Every call, and every list of calls, extends whatever list led to it.
-pub fn longer_lists() -> u8
+pub fn longer_lists()
     ensures call { EveryCallExtends }
     ensures list { EveryListExtends }
-{
-    0
-}
+{}

@@ -19,7 +19,7 @@ pub fn note(trace: &mut Trace, action: Action) -> Result<u8, Refusal>
     ensures opening { opening_of trace.new ≡ opening_of trace.old }
     ensures more { OneMore (opening_of trace.old) (noted_of trace.old) (to_note action) (gave_note result) (opening_of trace.new) (noted_of trace.new) }
 {
-    trace.note(action.thread, action.kind, action.subject, action.value)
+    trace.note(action)
 }
 
 // Writes the map of the noted events into the rows, and gives how many there are; or refuses.

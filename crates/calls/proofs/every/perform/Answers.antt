@@ -1,13 +1,11 @@
 use Rattle.std.proofs.Common.{◌<◌, ◌≤◌, length, arith}
 use Rattle.trace.specs.Meaning.{opening_of, noted_of}
-use Rattle.calls.proofs.Going.{going_none, going_more, going_all}
+use Rattle.calls.proofs.Going.{going_more, going_all}
 use Rattle.calls.proofs.Held.{lawful}
 use Rattle.calls.proofs.Rising.{extends}
-use Rattle.calls.proofs.Traces.{noted_in, small_in}
+use Rattle.trace.proofs.Bounds.{opening_few}
+use Rattle.calls.proofs.Traces.{noted_in}
 use Rattle.calls.proofs.every.perform.Goals as goal
-
-pub loop-call-init : goal.loop-call-init
-loop-call-init g c = going_none _ _ _ _ _ _
 
 pub loop-call-preserved : goal.loop-call-preserved
 loop-call-preserved g c =
@@ -16,15 +14,13 @@ loop-call-preserved g c =
     (noted_of c.perform_one.new.trace) lt
     c.perform_one.ensures.gives c.perform_one.ensures.keeps c.perform_one.ensures.noted c.perform_one.ensures.opening
 
-pub returns : goal.returns
-returns g c =
+pub returns-clause-lawful : goal.returns-clause-lawful
+returns-clause-lawful g c =
     let past : length c.loop-call.calls ≤ c.loop-call.call-index = omega arith in
     let t = c.args.trace.now in
-    let p = going_all _ _ _ _ _ _ _ _ _ _ c.loop-call.invariant past in
-    record {
-      performed = p;
-      lawful = lawful _ _ _ _ _ (noted_in t) (small_in t).0 p;
-      more = extends _ _ _ _ _ p _ c.loop-call.invariant.opens;
-      keeps = c.loop-call.invariant.keeps;
-      opening = c.loop-call.invariant.opens;
-    }
+    lawful _ _ _ _ _ (noted_in t) (opening_few t).0 (going_all _ _ _ _ _ _ _ _ _ _ c.loop-call.invariant past)
+
+pub returns-clause-more : goal.returns-clause-more
+returns-clause-more g c =
+    let past : length c.loop-call.calls ≤ c.loop-call.call-index = omega arith in
+    extends _ _ _ _ _ (going_all _ _ _ _ _ _ _ _ _ _ c.loop-call.invariant past) _ c.loop-call.invariant.opens

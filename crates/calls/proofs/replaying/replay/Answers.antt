@@ -1,4 +1,4 @@
-use Rattle.std.proofs.Common.{◌≡◌, ℕ, List, is_some, Err, sym, refl, ap, ◌∙◌, subst}
+use Rattle.std.proofs.Common.{ℕ, List, is_some, Err, sym, refl, ap, ◌∙◌, subst}
 use Rattle.events.specs.declared.event.Event.{Event}
 use Rattle.events.specs.Noting.{Noted}
 use Rattle.order.proofs.Noting.{within_of}
@@ -9,23 +9,17 @@ use Rattle.follow.specs.Made.{MadeOf}
 use Rattle.replay.specs.declared.refusal.ReplayRefusal.TheVariants.{Void}
 use Rattle.replay.specs.Outcome.{Outcome}
 use Rattle.calls.specs.Replays.{Replays}
-use Rattle.calls.proofs.Traces.{noted_in, small_in}
+use Rattle.trace.proofs.Bounds.{opening_few}
+use Rattle.calls.proofs.Traces.{noted_in}
 use Rattle.calls.proofs.Replayed.{when_void, when_open, granted}
 use Rattle.calls.proofs.Rising.{one_more}
 use Rattle.calls.proofs.replaying.replay.Goals as goal
 
-pub returns-then-is_some : goal.returns-then-is_some
-returns-then-is_some g c =
+pub returns-then-is_some-clause-more : goal.returns-then-is_some-clause-more
+returns-then-is_some-clause-more g c =
     let t = c.args.trace.now in
-    let m : Meaning = g.M.Monitor.meaning c.args.monitor.now in
-    let ts : List ℕ = c.args.threads.now in
     let void = sym (c.is_some.ensures ∙ ap is_some c.void.ensures) ∙ c.if-is_some.true in
-    let replays : Replays (opening_of t) (noted_of t) m ts (Err Void) = when_void (opening_of t) (noted_of t) m ts void in
-    record {
-      replays = replays;
-      granted = granted (opening_of t) (noted_of t) m ts (Err Void) replays;
-      more = one_more _ _ _ _ (Err Void, refl, replays) _ _ refl refl;
-    }
+    one_more _ _ _ _ (Err Void, refl, when_void (opening_of t) (noted_of t) (g.M.Monitor.meaning c.args.monitor.now) c.args.threads.now void) _ _ refl refl
 
 pub returns : goal.returns
 returns g c =
@@ -36,7 +30,7 @@ returns g c =
     let is = c.events.ensures.value in
     let made : MadeOf (noted_of t) c.make-tables.result
     = subst (λ (es : List Event). MadeOf es c.make-tables.result) is
-    (c.make-tables.ensures (opening_of t) (small_in t) (subst (λ (es : List Event). Noted (opening_of t) es) (sym is) (noted_in t))) in
+    (c.make-tables.ensures (opening_of t) (opening_few t) (subst (λ (es : List Event). Noted (opening_of t) es) (sym is) (noted_in t))) in
     let along : Outcome m (noted_of t) (opening_of t).threads ts c.replay.result
     = subst (λ (n : ℕ). Outcome m (noted_of t) n ts c.replay.result) c.threads.ensures
     (c.replay.ensures (noted_of t) made (subst (λ (n : ℕ). ThreadsBelow (noted_of t) n) (sym c.threads.ensures) (within_of (opening_of t) (noted_of t) (noted_in t)).threads)) in
