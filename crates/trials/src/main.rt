@@ -18,9 +18,7 @@ const LARGEST: u64 = 16777216;
 
 // A small trace through its other calls.
 fn looked_at(rt: &HostRuntime, text: &[u8], rows: &mut [Event]) -> Option<Digests> {
-    let Ok(recording) = text::read(rt.alloc(), text) else {
-        return None;
-    };
+    let recording = text::read(rt.alloc(), text).ok()?;
     let mut trace = Trace::open(recording.threads, &recording.starts, rows);
     look(&mut trace, &recording)
 }
@@ -33,7 +31,6 @@ fn tell(rt: &HostRuntime, name: &str, prediction: Prediction, threads: &[u8]) ->
         Verdict::Found => {
             print!(rt; "{name}: found {pairs}")?;
             for thread in threads.iter().take(prediction.events) {
-                let thread = *thread;
                 print!(rt; " {thread}")?;
             }
             println!(rt; "")
@@ -49,17 +46,15 @@ fn say(
     pairs: &mut [SearchRow],
     threads: &mut [u8],
 ) -> io::Result<()> {
-    let name = std::str::from_utf8(case.name).unwrap_or("?");
+    let name = case.name;
     let count = case.rows.min(rows.len());
     match predictor::predict(rt.alloc(), case.text, &mut rows[0..count], pairs, threads) {
         Ok(prediction) => {
             tell(rt, name, prediction, threads)?;
-            match looked_at(rt, case.text, &mut rows[0..count]) {
-                Some(Digests { runs, digest, map }) => println!(rt;
-                    "{name}: {runs} runs {digest} map {map}"
-                ),
-                None => Ok(()),
+            if let Some(digests) = looked_at(rt, case.text, &mut rows[0..count]) {
+                println!(rt; "{name}: {digests}")?;
             }
+            Ok(())
         }
         Err(Stop::Faulty(fault)) => println!(rt; "{name}: {fault}"),
         Err(Stop::Memory) => println!(rt; "{name}: out of memory"),
@@ -72,10 +67,10 @@ fn main(rt: HostRuntime) -> io::Result<()> {
     let mut threads = [0u8; 1024];
     let mut input = Vec::new(rt.alloc());
     rt.stdin().take(LARGEST).read_to_end(&mut input)?;
-    let mut at = 0;
-    while let Some(case) = next_case(&input, at) {
+    let mut rest = input.as_slice();
+    while let Some((case, after)) = next_case(rest) {
         say(&rt, case, &mut rows, &mut pairs, &mut threads)?;
-        at = case.next;
+        rest = after;
     }
     Ok(())
 }

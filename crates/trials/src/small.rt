@@ -1,10 +1,14 @@
 // A small trace looked at through its calls: every list of threads replayed, and its map, each as a
 // digest of what was answered.
+ghost use Rattle.std.specs.Prelude.{◌≤◌};
+
 use calls::{map, note};
+use events::Event;
 use follow::Tables;
 use formula::Formula;
 use order::Row;
 use replay::replay;
+use std::fmt;
 use text::Recording;
 use trace::Trace;
 
@@ -23,40 +27,45 @@ pub struct Digests {
     pub map: u64,
 }
 
+impl fmt::Display for Digests {
+    fn fmt<W: fmt::Write>(&self, f: &mut fmt::Formatter<W>) -> fmt::Result {
+        let Digests { runs, digest, map } = self;
+        write!(f, "{runs} runs {digest} map {map}")
+    }
+}
+
 fn mixed(digest: u64, n: u64) -> u64 {
     digest.wrapping_mul(1099511628211).wrapping_add(n)
 }
 
 // The list with this number, of all lists of so many threads: its digits, the first the lowest.
+// The other test program takes digits of its own: the two would need a library for six lines.
 fn list_of(number: usize, threads: u8) -> [u8; MOST] {
     let mut list = [0u8; MOST];
     let mut rest = number;
     if threads > 0 {
-        for i in 0..MOST {
-            list[i] = (rest % threads as usize) as u8;
+        for thread in &mut list {
+            *thread = (rest % threads as usize) as u8;
             rest /= threads as usize;
         }
     }
     list
 }
 
-// How many lists of so many threads and events there are.
-fn lists(threads: u8, events: usize) -> usize {
-    let mut number = 1usize;
-    for _ in 0..events {
-        number = number.saturating_mul(threads as usize);
-    }
-    number
-}
-
 fn map_digest(rows: &[Row]) -> u64 {
     let mut digest = 0;
     for row in rows {
-        digest = mixed(digest, row.thread as u64);
-        digest = mixed(digest, row.place as u64);
-        digest = mixed(digest, row.kind as u64);
-        digest = mixed(digest, row.subject as u64);
-        digest = mixed(digest, u64::from(row.value.unsigned_abs()));
+        let Event {
+            thread,
+            place,
+            kind,
+            subject,
+            value,
+        } = row.event;
+        for number in [thread, place, kind, subject] {
+            digest = mixed(digest, number as u64);
+        }
+        digest = mixed(digest, u64::from(value.unsigned_abs()));
         digest = mixed(digest, row.source.0 as u64);
         digest = mixed(digest, row.source.1 as u64);
         for count in row.clock {
@@ -66,18 +75,19 @@ fn map_digest(rows: &[Row]) -> u64 {
     digest
 }
 
-// Replays every list.
-fn replays(tables: &Tables, threads: u8, events: usize, formula: &Formula, map: u64) -> Digests {
+// Replays every list of so many events.
+fn replays(tables: &Tables, threads: u8, events: usize, formula: &Formula, map: u64) -> Digests
+    requires { events ≤ 8 }
+{
+    let lists = (threads as usize).saturating_pow(events as u32);
     let mut runs = 0usize;
     let mut digest = 0;
-    if events <= MOST {
-        for number in 0..lists(threads, events) {
-            let list = list_of(number, threads);
-            if let Ok(verdict) = replay(tables, threads, &list[0..events], formula) {
-                runs = runs.saturating_add(1);
-                digest = mixed(digest, number as u64);
-                digest = mixed(digest, if verdict.violated { 1 } else { 0 });
-            }
+    for number in 0..lists {
+        let list = list_of(number, threads);
+        if let Ok(verdict) = replay(tables, threads, &list[..events], formula) {
+            runs = runs.saturating_add(1);
+            digest = mixed(digest, number as u64);
+            digest = mixed(digest, u64::from(verdict.violated));
         }
     }
     Digests { runs, digest, map }
@@ -93,20 +103,9 @@ pub fn look(trace: &mut Trace, recording: &Recording) -> Option<Digests> {
         let _ = note(trace, *action);
     }
     let mut rows = [Row::BLANK; MOST];
-    let written = match map(trace, &mut rows) {
-        Ok(written) => written,
-        Err(_) => return None,
-    };
-    if written > MOST {
-        return None;
-    }
-    let map = map_digest(&rows[0..written]);
-    match Formula::make(trace, recording.rule) {
-        Ok(formula) => {
-            let tables = Tables::make(trace.events());
-            let threads = trace.threads();
-            Some(replays(&tables, threads, events, &formula, map))
-        }
-        Err(_) => None,
-    }
+    let written = map(trace, &mut rows).ok()?;
+    let map = map_digest(rows.get(..written)?);
+    let formula = Formula::make(trace, recording.rule).ok()?;
+    let tables = Tables::make(trace.events());
+    Some(replays(&tables, trace.threads(), events, &formula, map))
 }
