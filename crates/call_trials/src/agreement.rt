@@ -1,5 +1,8 @@
 // A rule and an automaton for the same property agree on all runs of up to six events over a small
 // alphabet: label 5 only after label 4.
+ghost use Rattle.std.specs.Prelude.{◌≤◌};
+
+use crate::given::{STEP, action};
 use automaton::{Arc, Automaton};
 use events::{Action, Event};
 use formula::Formula;
@@ -13,64 +16,41 @@ const MOST: usize = 6;
 // The number of actions in the alphabet.
 const LETTERS: usize = 4;
 
-fn arc(from: u8, subject: u8, to: u8) -> Arc {
-    Arc {
-        from,
-        kind: 0,
-        subject,
-        comparison: 3,
-        constant: 0,
-        to,
-    }
-}
-
 // Labels 4, 5 and 6, and a write of 5 to variable 4.
-fn letter(n: usize) -> Action {
-    let (kind, subject) = match n {
-        0 => (0, 4),
-        1 => (0, 5),
-        2 => (0, 6),
-        _ => (2, 4),
-    };
-    Action {
-        thread: 0,
-        kind,
-        subject,
-        value: 5,
-    }
+fn letters() -> [Action; LETTERS] {
+    [
+        action(0, 0, 4, 5),
+        action(0, 0, 5, 5),
+        action(0, 0, 6, 5),
+        action(0, 2, 4, 5),
+    ]
 }
 
-// The run with this number: its digits, the first the lowest.
+// The run with this number: its letters are the number's digits, the first the lowest.
 fn run_of(number: usize) -> [Action; MOST] {
-    let mut actions = [letter(0); MOST];
+    let letters = letters();
+    let mut actions = [letters[0]; MOST];
     let mut rest = number;
-    for i in 0..MOST {
-        actions[i] = letter(rest % LETTERS);
+    for action in &mut actions {
+        *action = letters[rest % LETTERS];
         rest /= LETTERS;
     }
     actions
 }
 
 // How many of the runs of this length violate, and how many the two monitors differ on.
-fn compare<L: Monitor, R: Monitor>(left: &L, right: &R, length: usize) -> (usize, usize) {
+fn compare<L: Monitor, R: Monitor>(left: &L, right: &R, length: usize) -> (usize, usize)
+    requires { length ≤ 6 }
+{
+    let runs = LETTERS.saturating_pow(length as u32);
     let mut violating = 0usize;
     let mut differing = 0usize;
-    let mut number = 1usize;
-    for _ in 0..length {
-        number = number.saturating_mul(LETTERS);
-    }
-    if length <= MOST {
-        for k in 0..number {
-            let actions = run_of(k);
-            let l = run(left, &actions[0..length]).violated;
-            let r = run(right, &actions[0..length]).violated;
-            if l {
-                violating = violating.saturating_add(1);
-            }
-            if l != r {
-                differing = differing.saturating_add(1);
-            }
-        }
+    for number in 0..runs {
+        let actions = run_of(number);
+        let l = run(left, &actions[..length]).violated;
+        let r = run(right, &actions[..length]).violated;
+        violating = violating.saturating_add(usize::from(l));
+        differing = differing.saturating_add(usize::from(l != r));
     }
     (violating, differing)
 }
@@ -81,11 +61,11 @@ pub fn agreement(rt: &HostRuntime) -> io::Result<()> {
     let Ok(formula) = Formula::make(&trace, b"(implies (mark 5) (once (mark 4)))") else {
         return println!(rt; "no rule");
     };
-    let arcs = [arc(0, 4, 1), arc(0, 5, 2)];
+    let arcs = [Arc { subject: 4, ..STEP }, Arc { to: 2, ..STEP }];
     let Ok(automaton) = Automaton::new(3, 0, 2, &arcs) else {
         return println!(rt; "no automaton");
     };
-    for length in 0..7 {
+    for length in 0..=MOST {
         let (violating, differing) = compare(&formula, &automaton, length);
         println!(rt; "runs of {length}: {violating} violate, {differing} differ")?;
     }

@@ -3,8 +3,10 @@
 #![tactic(auto)]
 
 mod agreement;
+mod given;
 mod refusals;
 mod rules;
+mod said;
 
 use std::io;
 

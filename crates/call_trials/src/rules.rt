@@ -1,18 +1,10 @@
 // Each operator's truth after each event of one run.
+use crate::given::action;
 use events::{Action, Event};
 use formula::Formula;
 use monitor::Monitor;
 use std::io;
 use trace::Trace;
-
-fn action(thread: u8, kind: u8, subject: u8, value: i32) -> Action {
-    Action {
-        thread,
-        kind,
-        subject,
-        value,
-    }
-}
 
 // Labels 1 and 2, writes of variable 0, and a read of another value than was written, which no
 // trace has: comparisons follow writes alone.
@@ -39,37 +31,35 @@ fn say(rt: &HostRuntime, rule: &str) -> io::Result<()> {
             let mut code = formula.start();
             for action in run() {
                 code = formula.step(code, action);
-                let bit = code & 1;
-                print!(rt; " {bit}")?;
+                print!(rt; " {}", code & 1)?;
             }
-            if formula.bad(code) {
-                println!(rt; " broken")
-            } else {
-                println!(rt; " kept")
-            }
+            let end = if formula.bad(code) { "broken" } else { "kept" };
+            println!(rt; " {end}")
         }
-        Err(fault) => {
-            let number = fault.number();
-            println!(rt; "{rule}: {number}")
-        }
+        Err(fault) => println!(rt; "{rule}: {}", fault.number()),
     }
 }
 
 pub fn operators(rt: &HostRuntime) -> io::Result<()> {
-    say(rt, "(eq 0 4)")?;
-    say(rt, "(lt 0 5)")?;
-    say(rt, "(gt 0 5)")?;
-    say(rt, "(mark 1)")?;
-    say(rt, "(by 1)")?;
-    say(rt, "(not (by 1))")?;
-    say(rt, "(and (by 1) (eq 0 4))")?;
-    say(rt, "(or (mark 1) (gt 0 5))")?;
-    say(rt, "(implies (by 1) (eq 0 4))")?;
-    say(rt, "(before (mark 1))")?;
-    say(rt, "(once (mark 1))")?;
-    say(rt, "(always (eq 0 4))")?;
-    say(rt, "(since (eq 0 4) (mark 1))")?;
-    say(rt, "(since (not (mark 2)) (by 1))")?;
-    say(rt, "(or (by 0) (by 1))")?;
-    say(rt, "(mark 32)")
+    for rule in [
+        "(eq 0 4)",
+        "(lt 0 5)",
+        "(gt 0 5)",
+        "(mark 1)",
+        "(by 1)",
+        "(not (by 1))",
+        "(and (by 1) (eq 0 4))",
+        "(or (mark 1) (gt 0 5))",
+        "(implies (by 1) (eq 0 4))",
+        "(before (mark 1))",
+        "(once (mark 1))",
+        "(always (eq 0 4))",
+        "(since (eq 0 4) (mark 1))",
+        "(since (not (mark 2)) (by 1))",
+        "(or (by 0) (by 1))",
+        "(mark 32)",
+    ] {
+        say(rt, rule)?;
+    }
+    Ok(())
 }

@@ -1,0 +1,22 @@
+// Actions and arcs, in short.
+use automaton::Arc;
+use events::Action;
+
+pub fn action(thread: u8, kind: u8, subject: u8, value: i32) -> Action {
+    Action {
+        thread,
+        kind,
+        subject,
+        value,
+    }
+}
+
+// From state 0 to state 1 at any internal event with label 5.
+pub const STEP: Arc = Arc {
+    from: 0,
+    kind: 0,
+    subject: 5,
+    comparison: 3,
+    constant: 0,
+    to: 1,
+};
