@@ -1,5 +1,5 @@
 // From the words of a formula to its table.
-ghost use Rattle.std.specs.Prelude.{◌≡◌, ◌<◌, ◌≤◌, length, slice_get, slice_index, Some, None};
+ghost use Rattle.std.specs.Prelude.{◌≡◌, ◌<◌, ◌≤◌, length, slice_get, slice_index, Some, None, IfSome, IfNone};
 ghost use Rattle.formula.specs.Words.{CompiledTo, BlankBeyond, OneFormula, Placing, Missing};
 
 use crate::node::{Node, Table};
@@ -14,7 +14,9 @@ fn end_of(ends: &[u8], at: u8) -> Option<u8>
 
 // The same of the two subformulas that begin there, one behind the other.
 fn ends_of(ends: &[u8], at: u8) -> Option<(u8, u8)>
-    ensures { elim result [ Some p ↦ (at < length ends.now) × (p.0 < length ends.now) × (p.0 ≡ slice_index ends.now at) × (p.1 ≡ slice_index ends.now p.0) | None ↦ at < length ends.now → length ends.now ≤ slice_index ends.now at ] }
+    ensures first { IfSome result (λ p. slice_get ends.now at ≡ Some p.0) }
+    ensures second { IfSome result (λ p. slice_get ends.now p.0 ≡ Some p.1) }
+    ensures missing { IfNone result (at < length ends.now → length ends.now ≤ slice_index ends.now at) }
 {
     let middle = end_of(ends, at)?;
     let end = end_of(ends, middle)?;
