@@ -8,11 +8,25 @@ use Rattle.predictor.specs.declared.fault.Stop.{Stop}
 use Rattle.predictor.specs.declared.fault.Stop.TheVariants.{Faulty, Memory}
 use Rattle.predictor.specs.declared.predicting.Prediction.{Prediction}
 use Rattle.linked.specs.declared.answer.Answer.{Answer}
+use Rattle.linked.specs.declared.answer.Outcome.{Outcome}
+use Rattle.linked.specs.declared.answer.Outcome.TheVariants as outcome
 
--- 0: no order of the events breaks the rule; 1: some order does
-abbrev pub outcome_of : Verdict → ℕ
-outcome_of verdict.None = 0
-outcome_of verdict.Found = 1
+-- none where no order of the events breaks the rule, found where some order does
+abbrev pub outcome_of : Verdict → Outcome
+outcome_of verdict.None = outcome.None
+outcome_of verdict.Found = outcome.Found
+
+-- the outcomes' numbers
+abbrev pub outcome_number : Outcome → ℕ
+outcome_number outcome.None = 0
+outcome_number outcome.Found = 1
+outcome_number outcome.Fault = 2
+outcome_number outcome.Memory = 3
+
+-- the outcome of a verdict, with its pairs and events
+abbrev pub prediction_answer : Prediction → Answer
+prediction_answer p =
+    record { outcome = outcome_number (outcome_of p.verdict); number = 0; line = 0; column = 0; pairs = p.pairs; events = p.events }
 
 -- 2: a fault, with its number and place
 abbrev pub fault_answer : Fault → Answer
@@ -20,7 +34,10 @@ fault_answer fault =
     record { outcome = 2; number = fault_number fault; line = (fault_place fault).line; column = (fault_place fault).column; pairs = 0; events = 0 }
 
 -- 3: memory ran out
+abbrev pub stop_answer : Stop → Answer
+stop_answer (Faulty fault) = fault_answer fault
+stop_answer Memory = record { outcome = 3; number = 0; line = 0; column = 0; pairs = 0; events = 0 }
+
 abbrev pub answer_of : Result Prediction Stop → Answer
-answer_of (Ok p) = record { outcome = outcome_of p.verdict; number = 0; line = 0; column = 0; pairs = p.pairs; events = p.events }
-answer_of (Err (Faulty fault)) = fault_answer fault
-answer_of (Err Memory) = record { outcome = 3; number = 0; line = 0; column = 0; pairs = 0; events = 0 }
+answer_of (Ok p) = prediction_answer p
+answer_of (Err stop) = stop_answer stop

@@ -1,24 +1,25 @@
 // What the predictor says, in numbers that a C program can read.
 ghost use Rattle.std.specs.Prelude.{◌≡◌};
-ghost use Rattle.linked.specs.Answers.{outcome_of, fault_answer, answer_of};
+ghost use Rattle.linked.specs.Answers.{answer_of, fault_answer, outcome_of, prediction_answer, stop_answer};
 
 use judge::Verdict;
 use predictor::{Fault, Prediction, Stop};
 
-// No order of the events breaks the rule.
-const NONE: u8 = 0;
-
-// Some order does, and the thread list begins with the least one.
-const FOUND: u8 = 1;
-
-// The recording has a fault, or the rows do not suffice.
-const FAULT: u8 = 2;
-
-// Memory ran out.
-const MEMORY: u8 = 3;
+// How a call ends, by its number in C.
+#[derive(Clone, Copy)]
+pub enum Outcome {
+    // no order of the events breaks the rule
+    None = 0,
+    // some order does, and the thread list begins with the least one
+    Found = 1,
+    // the recording has a fault, or the rows do not suffice
+    Fault = 2,
+    // memory ran out
+    Memory = 3,
+}
 
 // The outcome; the pairs and events of a verdict; and the number, line and column of a fault. What
-// an outcome does not have is 0.
+// an outcome does not have is 0. A C program reads the outcome as a number.
 #[repr(C)]
 #[derive(Clone, Copy)]
 pub struct Answer {
@@ -30,54 +31,78 @@ pub struct Answer {
     pub events: usize,
 }
 
-fn outcome(verdict: Verdict) -> u8
-    ensures { result ≡ outcome_of verdict }
-{
-    match verdict {
-        Verdict::None => NONE,
-        Verdict::Found => FOUND,
-    }
-}
-
-fn of_fault(fault: Fault) -> Answer
-    ensures { result ≡ fault_answer fault }
-{
-    let place = fault.place();
-    Answer {
-        outcome: FAULT,
-        number: fault.number(),
-        line: place.line,
-        column: place.column,
-        pairs: 0,
-        events: 0,
-    }
-}
-
 impl Answer {
     pub const MEMORY: Answer = Answer {
-        outcome: MEMORY,
+        outcome: Outcome::Memory as u8,
         number: 0,
         line: 0,
         column: 0,
         pairs: 0,
         events: 0,
     };
+}
 
-    // What is said of a prediction, or of what stopped it.
-    pub fn of(predicted: Result<Prediction, Stop>) -> Answer
-        ensures { result ≡ answer_of predicted }
-    {
+impl From<Verdict> for Outcome {
+    ghost from_gives = { λ verdict r. r ≡ outcome_of verdict };
+
+    fn from(verdict: Verdict) -> Outcome {
+        match verdict {
+            Verdict::None => Outcome::None,
+            Verdict::Found => Outcome::Found,
+        }
+    }
+}
+
+impl From<Prediction> for Answer {
+    ghost from_gives = { λ prediction r. r ≡ prediction_answer prediction };
+
+    fn from(prediction: Prediction) -> Answer {
+        Answer {
+            outcome: Outcome::from(prediction.verdict) as u8,
+            number: 0,
+            line: 0,
+            column: 0,
+            pairs: prediction.pairs,
+            events: prediction.events,
+        }
+    }
+}
+
+impl From<Fault> for Answer {
+    ghost from_gives = { λ fault r. r ≡ fault_answer fault };
+
+    fn from(fault: Fault) -> Answer {
+        let place = fault.place();
+        Answer {
+            outcome: Outcome::Fault as u8,
+            number: fault.number(),
+            line: place.line,
+            column: place.column,
+            pairs: 0,
+            events: 0,
+        }
+    }
+}
+
+impl From<Stop> for Answer {
+    ghost from_gives = { λ stop r. r ≡ stop_answer stop };
+
+    fn from(stop: Stop) -> Answer {
+        match stop {
+            Stop::Faulty(fault) => Answer::from(fault),
+            Stop::Memory => Answer::MEMORY,
+        }
+    }
+}
+
+// What is said of a prediction, or of what stopped it.
+impl From<Result<Prediction, Stop>> for Answer {
+    ghost from_gives = { λ predicted r. r ≡ answer_of predicted };
+
+    fn from(predicted: Result<Prediction, Stop>) -> Answer {
         match predicted {
-            Ok(prediction) => Answer {
-                outcome: outcome(prediction.verdict),
-                number: 0,
-                line: 0,
-                column: 0,
-                pairs: prediction.pairs,
-                events: prediction.events,
-            },
-            Err(Stop::Faulty(fault)) => of_fault(fault),
-            Err(Stop::Memory) => Answer::MEMORY,
+            Ok(prediction) => Answer::from(prediction),
+            Err(stop) => Answer::from(stop),
         }
     }
 }

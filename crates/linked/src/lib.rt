@@ -4,7 +4,7 @@
 pub mod answer;
 pub mod predicting;
 
-pub use answer::Answer;
+pub use answer::{Answer, Outcome};
 pub use predicting::linked_predict;
 
 #[cfg(test)]

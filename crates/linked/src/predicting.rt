@@ -21,10 +21,8 @@ fn predict_over(
     ensures { Says text.now rows threads.old result threads.new }
 {
     let mut events = [Event::BLANK; 1024];
-    match Vec::from_elem(heap, SearchRow::BLANK, rows) {
-        Ok(mut pairs) => predictor::predict(heap, text, &mut events, pairs.as_mut_slice(), threads),
-        Err(_) => Err(Stop::Memory),
-    }
+    let mut pairs = Vec::from_elem(heap, SearchRow::BLANK, rows)?;
+    predictor::predict(heap, text, &mut events, pairs.as_mut_slice(), threads)
 }
 
 // Predicts from the text of a recording, over 1,024 event rows and as many rows of pairs as are
@@ -39,6 +37,6 @@ pub extern "C" fn linked_predict(
 ) -> Answer
     ensures { Told text.now rows threads.old result threads.new }
 {
-    let room = if rows < MOST_ROWS { rows } else { MOST_ROWS };
-    Answer::of(predict_over(heap, text, room, threads))
+    let room = rows.min(MOST_ROWS);
+    Answer::from(predict_over(heap, text, room, threads))
 }

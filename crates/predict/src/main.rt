@@ -3,20 +3,20 @@
 
 use events::Event;
 use judge::{SearchRow, Verdict};
-use predictor::{Fault, Prediction, Stop};
+use predictor::{Prediction, Stop};
+use std::fmt;
 use std::io;
 use std::io::Read;
 use std::process::ExitCode;
 
-// The longest text that is read, and one byte more, by which a longer one is known.
-const LONGEST: u64 = 60001;
+// One byte more than a text may have, by which a longer one is known.
+const MOST_READ: u64 = text::LONGEST as u64 + 1;
 
 // Why the program ends with status 1.
 #[derive(Drop)]
 pub enum Ended {
     Io(io::Error),
-    Refused(Fault),
-    Memory,
+    Stopped(Stop),
 }
 
 impl From<io::Error> for Ended {
@@ -25,48 +25,65 @@ impl From<io::Error> for Ended {
     }
 }
 
+impl From<Stop> for Ended {
+    fn from(stop: Stop) -> Ended {
+        Ended::Stopped(stop)
+    }
+}
+
+// What is said of a recording, with the threads of the first order that breaks its rule in front of
+// the thread list, if one does.
+#[derive(Clone, Copy)]
+struct Report<'a> {
+    prediction: Prediction,
+    threads: &'a [u8],
+}
+
 // The verdict, the number of pairs and, where an order of the events breaks the rule, the threads
 // of the first such order.
-fn print(rt: &HostRuntime, prediction: Prediction, threads: &[u8]) -> io::Result<()> {
-    let pairs = prediction.pairs;
-    match prediction.verdict {
-        Verdict::None => {
-            println!(rt; "(verdict none)")?;
-            println!(rt; "(pairs {pairs})")
-        }
-        Verdict::Found => {
-            println!(rt; "(verdict found)")?;
-            println!(rt; "(pairs {pairs})")?;
-            print!(rt; "(run")?;
-            for thread in threads.iter().take(prediction.events) {
-                let thread = *thread;
-                print!(rt; " {thread}")?;
+impl<'a> fmt::Display for Report<'a> {
+    fn fmt<W: fmt::Write>(&self, f: &mut fmt::Formatter<W>) -> fmt::Result {
+        let Prediction {
+            verdict,
+            pairs,
+            events,
+        } = self.prediction;
+        match verdict {
+            Verdict::None => write!(f, "(verdict none)\n(pairs {pairs})"),
+            Verdict::Found => {
+                write!(f, "(verdict found)\n(pairs {pairs})\n(run")?;
+                for thread in self.threads.iter().take(events) {
+                    write!(f, " {thread}")?;
+                }
+                write!(f, ")")
             }
-            println!(rt; ")")
         }
     }
 }
 
-// Reads the recording, and prints what is said of it, or its fault.
+// Reads the recording, and prints what is said of it.
 fn answer(rt: &HostRuntime) -> Result<(), Ended> {
     let mut rows = [Event::BLANK; 1024];
     let mut pairs = [SearchRow::BLANK; 2048];
     let mut threads = [0u8; 1024];
     let mut text = Vec::new(rt.alloc());
-    rt.stdin().take(LONGEST).read_to_end(&mut text)?;
-    match predictor::predict(rt.alloc(), &text, &mut rows, &mut pairs, &mut threads) {
-        Ok(prediction) => {
-            print(rt, prediction, &threads)?;
-            Ok(())
-        }
-        Err(Stop::Faulty(fault)) => {
-            println!(rt; "{fault}")?;
-            Err(Ended::Refused(fault))
-        }
-        Err(Stop::Memory) => {
-            eprintln!(rt; "out of memory")?;
-            Err(Ended::Memory)
-        }
+    rt.stdin().take(MOST_READ).read_to_end(&mut text)?;
+    let prediction = predictor::predict(rt.alloc(), &text, &mut rows, &mut pairs, &mut threads)?;
+    let report = Report {
+        prediction,
+        threads: &threads,
+    };
+    println!(rt; "{report}")?;
+    Ok(())
+}
+
+// Says why there is no verdict: the recording's fault, or want of memory. Nothing is said of a failed
+// read or write.
+fn explain(rt: &HostRuntime, ended: Ended) -> io::Result<()> {
+    match ended {
+        Ended::Stopped(Stop::Faulty(fault)) => println!(rt; "{fault}"),
+        Ended::Stopped(Stop::Memory) => eprintln!(rt; "out of memory"),
+        Ended::Io(e) => Err(e),
     }
 }
 
@@ -74,6 +91,9 @@ fn answer(rt: &HostRuntime) -> Result<(), Ended> {
 fn main(rt: HostRuntime) -> ExitCode {
     match answer(&rt) {
         Ok(()) => ExitCode::SUCCESS,
-        Err(_) => ExitCode::FAILURE,
+        Err(ended) => {
+            let _ = explain(&rt, ended);
+            ExitCode::FAILURE
+        }
     }
 }

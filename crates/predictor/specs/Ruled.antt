@@ -15,16 +15,6 @@ use Rattle.text.specs.declared.place.Place.{Place}
 use Rattle.predictor.specs.declared.fault.Fault.{Fault}
 use Rattle.predictor.specs.declared.fault.Fault.TheVariants.{Text, Record, Rule, Search}
 
--- what is said of a rule that begins at this place
-abbrev pub rule_at : Result Compiled RuleFault → Place → Result Compiled Fault
-rule_at (Ok c) start = Ok c
-rule_at (Err cause) start = Err (Rule cause start)
-
--- what is said of a judgement
-abbrev pub searched : Result Judgement JudgeRefusal → Result Judgement Fault
-searched (Ok j) = Ok j
-searched (Err why) = Err (Search why)
-
 -- The rule is made, and the trace judged by what it means. A rule that is refused leaves the rows of pairs and the thread list.
 abbrev pub Ruled : Opening → List Event → List ℕ → Place → List SearchRow → List ℕ → Result Judgement Fault → List SearchRow → List ℕ → Type 0
 Ruled o es t start rows list (Ok j) rows' list' =

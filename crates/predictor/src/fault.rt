@@ -2,12 +2,13 @@
 ghost use Rattle.std.specs.Prelude.{◌≡◌, Some};
 ghost use Rattle.predictor.specs.Faults.{fault_number, fault_place, layer_word, record_number, stop_of, place_in_line};
 ghost use Rattle.predictor.specs.Lines.{fault_line};
-ghost use Rattle.predictor.specs.declared.fault.Fault.TheVariants.{Text};
+ghost use Rattle.predictor.specs.declared.fault.Fault.TheVariants.{Search, Text};
 ghost use Rattle.predictor.specs.declared.fault.Stop.TheVariants.{Faulty, Memory};
 
 use events::{OpenRefusal, Refusal};
 use formula::RuleFault;
 use judge::JudgeRefusal;
+use std::alloc::AllocError;
 use std::fmt;
 use text::{Place, ReadFault, TextFault};
 
@@ -83,6 +84,7 @@ impl Fault {
             Fault::Text(cause) => cause.place(),
             Fault::Record(_, place) => place,
             Fault::Rule(cause, start) => within_line(start, cause.place()),
+            // What is printed of a fault has a line and a column, 0 where there is no place.
             Fault::Search(_) => Place { line: 0, column: 0 },
         }
     }
@@ -93,6 +95,14 @@ impl From<TextFault> for Fault {
 
     fn from(cause: TextFault) -> Fault {
         Fault::Text(cause)
+    }
+}
+
+impl From<JudgeRefusal> for Fault {
+    ghost from_gives = { λ cause r. r ≡ Search cause };
+
+    fn from(cause: JudgeRefusal) -> Fault {
+        Fault::Search(cause)
     }
 }
 
@@ -131,5 +141,13 @@ impl From<ReadFault> for Stop {
             ReadFault::Text(cause) => Stop::Faulty(Fault::Text(cause)),
             ReadFault::Memory => Stop::Memory,
         }
+    }
+}
+
+impl From<AllocError> for Stop {
+    ghost from_gives = { λ _ r. r ≡ Memory };
+
+    fn from(_error: AllocError) -> Stop {
+        Stop::Memory
     }
 }

@@ -5,7 +5,7 @@ ghost use Rattle.trace.specs.Meaning.{opening_of, noted_of, loan_of, refused_by}
 ghost use Rattle.predictor.specs.Outcome.{opens, placed, NotesAll};
 
 use crate::fault::{Fault, RecordFault};
-use events::{Action, Refusal};
+use events::Action;
 use text::Place;
 use trace::Trace;
 
@@ -17,30 +17,21 @@ pub(crate) fn opened(trace: &Trace) -> Result<(), Fault>
     ensures { result ≡ opens (opening_of trace.now).void }
 {
     match trace.void() {
-        Some(why) => Err(Fault::Record(RecordFault::Opening(why), Place { line: 1, column: 1 })),
+        Some(why) => Err(Fault::Record(RecordFault::Opening(why), Place::START)),
         None => Ok(()),
     }
 }
 
-// What is said of an event: where it is refused, its own line is at fault.
-fn at_line(answer: Result<u8, Refusal>, line: usize) -> Result<u8, Fault>
-    ensures { result ≡ placed answer line }
-{
-    match answer {
-        Ok(place) => Ok(place),
-        Err(why) => Err(Fault::Record(RecordFault::Noting(why), Place { line, column: 1 })),
-    }
-}
-
-// Notes the action of a line.
+// Notes the action of a line: where it is refused, its own line is at fault.
 fn note_line(trace: &mut Trace, action: Action, line: usize) -> Result<u8, Fault>
     ensures says { result ≡ placed (answer (refused_by trace.old action) (noted_of trace.old) action) line }
     ensures noted { noted_of trace.new ≡ extended (refused_by trace.old action) (noted_of trace.old) action }
     ensures opening { opening_of trace.new ≡ opening_of trace.old }
     ensures loan { loan_of trace.new ≡ loan_of trace.old }
 {
-    let answer = trace.note(action.thread, action.kind, action.subject, action.value);
-    at_line(answer, line)
+    trace
+        .note(action)
+        .map_err(|why| Fault::Record(RecordFault::Noting(why), Place { line, column: 1 }))
 }
 
 // Notes the actions in a new trace one after another, up to the first that is refused.
