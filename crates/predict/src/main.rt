@@ -4,10 +4,9 @@
 use events::Event;
 use judge::{SearchRow, Verdict};
 use predictor::{Prediction, Stop};
-use std::fmt;
-use std::io;
 use std::io::Read;
 use std::process::ExitCode;
+use std::{fmt, io};
 
 // One byte more than a text may have, by which a longer one is known.
 const MOST_READ: u64 = text::LONGEST as u64 + 1;

@@ -23,7 +23,7 @@ use Rattle.predictor.specs.declared.predicting.Prediction.{Prediction}
 use Rattle.predictor.specs.Faults.{stop_of}
 use Rattle.predictor.specs.Outcome.{line_start, opens, opening_for, Whole, Stuck, NotesAll}
 use Rattle.predictor.specs.Ruled.{Ruled}
-use Rattle.predictor.specs.Predicted.{Ready, Begins, rule_text, judgement_of, Predicted}
+use Rattle.predictor.specs.Predicted.{Ready, Begins, rule_text, Predicted}
 
 void_fault : (v : Option OpenRefusal) (f : Fault) → Err f ≡ opens v → (why : OpenRefusal) × (v ≡ Some why) × (f ≡ Record (record-fault.Opening why) (line_start 1))
 void_fault (Some why) f h = (why, refl, cc)

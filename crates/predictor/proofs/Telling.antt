@@ -1,5 +1,5 @@
 -- What a judgement by a rule says in the words of the rule.
-use Rattle.std.proofs.Common.{◌≡◌, ℕ, zero, suc, ◌≤◌, true, List, [], length, take, ℤ, Some, None, Ok, Option, sym, refl, ap, ◌∙◌, subst, le_trans, le_refl, arith}
+use Rattle.std.proofs.Common.{◌≡◌, ℕ, zero, suc, List, length, ℤ, Some, None, Ok, Option, refl, subst, le_trans, le_refl, arith}
 use Rattle.events.specs.declared.event.Action.{Action}
 use Rattle.events.specs.declared.event.Event.{Event}
 use Rattle.events.specs.declared.refusal.OpenRefusal.{OpenRefusal}
@@ -8,9 +8,8 @@ use Rattle.events.specs.Noting.{open_tests, opened_as}
 use Rattle.formula.specs.declared.formula.Formula.{Formula as Compiled}
 use Rattle.formula.specs.Meant.{meant}
 use Rattle.formula.specs.Theorem.{Watches}
-use Rattle.grammar.specs.Recording.{Recording, Formula, eq, lt, gt, mark, by, neg, before, once, always, and, or, implies, since, Nests, flat, formula}
+use Rattle.grammar.specs.Recording.{Recording, Formula, eq, lt, gt, mark, by, neg, before, once, always, and, or, implies, since, Nests}
 use Rattle.judge.specs.declared.row.SearchRow.{SearchRow}
-use Rattle.judge.specs.declared.verdict.Judgement.{Judgement}
 use Rattle.judge.specs.Said.{LeastBreak}
 use Rattle.monitor.specs.Meaning.{Violates}
 use Rattle.pairs.specs.Judged.{actions, Breaks}

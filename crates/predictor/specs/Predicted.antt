@@ -3,7 +3,6 @@ use Rattle.std.specs.Prelude.{◌≡◌, ℕ, ◌+◌, ◌≤◌, List, [], leng
 use Rattle.events.specs.declared.event.Action.{Action}
 use Rattle.events.specs.declared.event.Event.{Event}
 use Rattle.grammar.specs.Recording.{Recording, Formula, flat, formula}
-use Rattle.formula.specs.Making.{MadeOver}
 use Rattle.formula.specs.Truth.{Holds}
 use Rattle.judge.specs.declared.row.SearchRow.{SearchRow}
 use Rattle.judge.specs.declared.verdict.Judgement.{Judgement}
@@ -15,7 +14,6 @@ use Rattle.text.specs.declared.fault.ReadFault.TheVariants as read
 use Rattle.text.specs.Places.{byte_place}
 use Rattle.text.specs.Reading.{Right, reads, Answers}
 use Rattle.predictor.specs.declared.fault.RecordFault.TheVariants as record-fault
-use Rattle.predictor.specs.declared.fault.Fault.{Fault}
 use Rattle.predictor.specs.declared.fault.Fault.TheVariants.{Text, Record, Rule, Search}
 use Rattle.predictor.specs.declared.fault.Stop.{Stop}
 use Rattle.predictor.specs.declared.fault.Stop.TheVariants.{Faulty, Memory}

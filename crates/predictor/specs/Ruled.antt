@@ -2,11 +2,9 @@
 use Rattle.std.specs.Prelude.{◌≡◌, ℕ, List, Ok, Err, Result}
 use Rattle.events.specs.declared.event.Event.{Event}
 use Rattle.events.specs.Noting.{Opening}
-use Rattle.formula.specs.declared.fault.RuleFault.{RuleFault}
 use Rattle.formula.specs.declared.formula.Formula.{Formula as Compiled}
 use Rattle.formula.specs.Making.{MadeOver, WatchesText}
 use Rattle.formula.specs.Meant.{meant}
-use Rattle.judge.specs.declared.refusal.JudgeRefusal.{JudgeRefusal}
 use Rattle.judge.specs.declared.row.SearchRow.{SearchRow}
 use Rattle.judge.specs.declared.verdict.Judgement.{Judgement}
 use Rattle.judge.specs.Judging.{Judged}

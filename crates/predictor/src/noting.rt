@@ -29,9 +29,10 @@ fn note_line(trace: &mut Trace, action: Action, line: usize) -> Result<u8, Fault
     ensures opening { opening_of trace.new ≡ opening_of trace.old }
     ensures loan { loan_of trace.new ≡ loan_of trace.old }
 {
-    trace
-        .note(action)
-        .map_err(|why| Fault::Record(RecordFault::Noting(why), Place { line, column: 1 }))
+    trace.note(action).map_err(|why| Fault::Record(
+        RecordFault::Noting(why),
+        Place { line, column: 1 },
+    ))
 }
 
 // Notes the actions in a new trace one after another, up to the first that is refused.

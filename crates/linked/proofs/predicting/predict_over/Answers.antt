@@ -9,7 +9,7 @@ use Rattle.linked.proofs.predicting.predict_over.Goals as goal
 
 -- what the rows would have held
 blank : SearchRow
-blank = record { cut = replicate 8 0; code = 0; from = 0; thread = 0 }
+blank = record { pair = record { cut = replicate 8 0; code = 0 }; from = 0; thread = 0 }
 
 pub returns-in_err-pairs : goal.returns-in_err-pairs
 returns-in_err-pairs c =

@@ -1,12 +1,9 @@
-use Rattle.std.proofs.Common.{◌≡◌, ℕ, ◌+◌, ◌<◌, ◌≤◌, List, length, get_or, take, Ok, Err, Option, Result, sym, refl, ap, ◌∙◌, subst, arith}
+use Rattle.std.proofs.Common.{◌+◌, List, sym, refl, ◌∙◌, subst}
 use Rattle.std.proofs.lemmas.List.{take_all}
 use Rattle.std.proofs.lemmas.Result.{err_from_is_err_and}
 use Rattle.events.specs.declared.event.Action.{Action}
-use Rattle.events.specs.declared.event.Event.{Event}
-use Rattle.events.specs.declared.refusal.Refusal.{Refusal}
-use Rattle.events.specs.Noting.{Opening, refused, answer, extended}
-use Rattle.trace.specs.Meaning.{opening_of, noted_of, loan_of}
-use Rattle.predictor.specs.declared.fault.Fault.{Fault}
+use Rattle.events.specs.Noting.{Opening}
+use Rattle.trace.specs.Meaning.{opening_of, noted_of}
 use Rattle.predictor.specs.Outcome.{Stuck}
 use Rattle.predictor.proofs.Progress.{Progress, begun, noted_next, stuck}
 use Rattle.predictor.proofs.noting.note_all.Goals as goal

@@ -1,10 +1,9 @@
-use Rattle.std.proofs.Common.{◌≡◌, ℕ, List, length, ℤ, Ok, Err, Result, sym, refl, ap, ◌∙◌, subst}
+use Rattle.std.proofs.Common.{◌≡◌, ℕ, List, length, ℤ, Ok, Err, Result, sym, ap, ◌∙◌, subst}
 use Rattle.std.proofs.lemmas.Result.{err_from_is_err_and}
 use Rattle.events.specs.declared.event.Action.{Action}
 use Rattle.events.specs.declared.event.Event.{Event}
 use Rattle.events.specs.Noting.{Opening, opened}
 use Rattle.trace.specs.Meaning.{opening_of, noted_of}
-use Rattle.judge.specs.declared.row.SearchRow.{SearchRow}
 use Rattle.predictor.specs.declared.fault.Stop.{Stop}
 use Rattle.predictor.specs.declared.predicting.Prediction.{Prediction}
 use Rattle.predictor.specs.Outcome.{Whole, NotesAll}
