@@ -1,14 +1,12 @@
 -- From what is built to what is answered.
-use Rattle.std.proofs.Common.{◌≡◌, ℕ, ◌≤◌, List, length, Ok, Err, Result, sym, ap, ◌∙◌, subst}
-use Rattle.grammar.specs.Recording.{Legal}
+use Rattle.std.proofs.Common.{ℕ, ◌≤◌, List, length, Ok, Err, Result, sym, ap, subst}
 use Rattle.text.specs.declared.recording.Recording.{Recording}
 use Rattle.text.specs.declared.fault.TextFault.{TextFault}
-use Rattle.text.specs.declared.fault.TextFault.TheVariants.{TooLong, Unexpected, EndsEarly, OutOfRange}
 use Rattle.text.specs.declared.fault.ReadFault.{ReadFault}
 use Rattle.text.specs.declared.fault.ReadFault.TheVariants.{Text, Memory}
 use Rattle.text.specs.Building.{Built}
 use Rattle.text.specs.Places.{byte_place}
-use Rattle.text.specs.Reading.{Admitted, Answers}
+use Rattle.text.specs.Reading.{Answers}
 
 pub answers_built : (t : List ℕ) (q : Result Recording ReadFault) → length t ≤ 60000 → Built t q → Answers t q
 answers_built t (Ok rec) h b = (b.0, (h, b.1, b.2, b.3), b.4)
@@ -17,13 +15,3 @@ answers_built t (Err (Text f)) h b =
     subst (λ (x : TextFault). Answers t (Err (Text x))) (sym out.2)
     (out.0, (h, (b.0, b.1, b.2, out.1)), ap (λ (w : List ℕ). byte_place w out.0) (sym b.2))
 answers_built t (Err Memory) h b = tt
-
--- what is told of a text that is not admitted
-pub answers_refused : (t : List ℕ) (f : TextFault) → Admitted Legal t (Err f) → Answers t (Err (Text f))
-answers_refused t TooLong a = a
-answers_refused t (Unexpected p) a = (a.1.0, (a.0, a.1.1), a.1.2)
-answers_refused t (EndsEarly p) a = ((a.0, a.1), a.2)
-answers_refused t (OutOfRange p) a = elim a [ ]
-
-pub answers_err : (t : List ℕ) {q : Result Recording ReadFault} {y : ReadFault} {f : TextFault} → q ≡ Err y → y ≡ Text f → Answers t (Err (Text f)) → Answers t q
-answers_err t e same a = subst (λ (x : Result Recording ReadFault). Answers t x) (sym (e ∙ ap Err same)) a

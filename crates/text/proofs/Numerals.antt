@@ -11,7 +11,6 @@ use Rattle.std.proofs.lemmas.Bool.Decides.{nat_tests}
 use Rattle.grammar.specs.Recording.{TenDigits}
 use Rattle.text.specs.declared.place.Place.{Place}
 use Rattle.text.specs.declared.fault.TextFault.{TextFault}
-use Rattle.text.specs.declared.fault.TextFault.TheVariants.{OutOfRange}
 use Rattle.text.specs.Ranges.{ParsedAt, if_fits, small_number, told_at, wide_number}
 
 own : IsNumeralModel (AllDigits 10) (digits_value 10)
@@ -80,19 +79,3 @@ pub wide_read : {E : Type 0} (bs : List ℕ) (p : Place) (r : Result ℤ TextFau
 wide_read bs p r told z h e =
     let at = told (wide_utf8 z bs h e) in
     at.2 ∙ wide_parsed z bs at.0 p h e at.1
-
--- the same of the text that `from_utf8` made of the bytes, by what `parse` told_at
-module _ {E : Type 0} (bs text : List ℕ) (p : Place) (same : text ≡ bs) where
-  module _ (r : Result ℕ E) (reads : ParsesUnsigned 8 10 text r) where
-    pub small_ok : (v : ℕ) → r ≡ Ok v → (n : ℕ) → n < 10 ^ 10 → bs ≡ decimal n → Ok v ≡ small_number n p
-    small_ok v is n h e = sym (ap (λ (x : Result ℕ E). told_at x p) is) ∙ small_parsed n text r p h (same ∙ e) reads
-
-    pub small_err : (d : E) → r ≡ Err d → (n : ℕ) → n < 10 ^ 10 → bs ≡ decimal n → Err (OutOfRange p) ≡ small_number n p
-    small_err d is n h e = sym (ap (λ (x : Result ℕ E). told_at x p) is) ∙ small_parsed n text r p h (same ∙ e) reads
-
-  module _ (r : Result ℤ E) (reads : ParsesSigned w32 10 text r) where
-    pub wide_ok : (v : ℤ) → r ≡ Ok v → (z : ℤ) → TenDigits z → bs ≡ signed_decimal z → Ok v ≡ wide_number z p
-    wide_ok v is z h e = sym (ap (λ (x : Result ℤ E). told_at x p) is) ∙ wide_parsed z text r p h (same ∙ e) reads
-
-    pub wide_err : (d : E) → r ≡ Err d → (z : ℤ) → TenDigits z → bs ≡ signed_decimal z → Err (OutOfRange p) ≡ wide_number z p
-    wide_err d is z h e = sym (ap (λ (x : Result ℤ E). told_at x p) is) ∙ wide_parsed z text r p h (same ∙ e) reads

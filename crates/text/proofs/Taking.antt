@@ -36,9 +36,6 @@ token_moves t k x e = omega (arith, bytes_some (drop (skip t k) t) (byte_place t
 pub moved_onward : {s e : Reader} → Moved s e → Onward s e
 moved_onward m = record { text = m.text; at = omega (arith, m.at) }
 
-pub onward_more : {s m e : Reader} → Onward s m → Onward m e → Onward s e
-onward_more a b = record { text = b.text ∙ a.text; at = omega (arith, a.at, b.at) }
-
 -- the word that comes next
 module _ {whole rest : List Piece} {s e : Reader} {w : List ℕ} (m : Met whole s (word w) rest e) where
   word_met : word_in (ahead s.text.now s.at) ≡ Some w

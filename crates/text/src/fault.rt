@@ -28,6 +28,7 @@ pub enum ReadFault {
 }
 
 impl TextFault {
+    // Stays a match: a case that holds a place has no discriminant to cast.
     pub fn number(self) -> u8
         ensures { result ≡ text_number self }
     {

@@ -71,6 +71,7 @@ impl<'a> Reader<'a> {
         ensures on { self.old.at ≤ self.new.at }
         ensures at { (kind : ℕ → Bool) → Tells F.post is kind → self.new.at ≡ self.old.at + run kind (drop self.old.at self.old.text.now) }
     {
+        // Stays a loop by steps: each keeps the place of the next byte.
         while self.at < self.text.len() && is(self.text[self.at]) {
             self.step();
         }
