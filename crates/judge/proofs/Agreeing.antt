@@ -49,7 +49,7 @@ module _ (o : Opening) (es : List Event) (n : ℕ) (m : Meaning) (recorded : Rec
           next-none es made.sound n m x t
           (λ i may own.
           let e = one_answer es made.sound (cut_of x.cut) t (Ok (get_or es i blank)) (Err why) (i, may, own, refl) a in
-          let z : ◌≡◌ {A = ℕ} 0 1 = cc in omega arith)
+          cc)
 
       by_answer : (f : Result Event NoNext) → Answers es (cut_of x.cut) t f → moved_as m x t f ≡ (pairs es n m).next x t
       by_answer (Ok e) a = ap (λ (z : Event). Some (moved m x t z)) a.3 ∙ sym (next_moves es made.sound n m x t a.0 a.1 a.2)

@@ -34,14 +34,14 @@ module _ (es : List Event) (m : Meaning) (rows : List (Row Pair)) (k : ℕ) (all
   said verdict.None a = record {
     never = λ e. judges.never (λ j s l at h. a.0 j s (omega arith) at h);
     none = λ h. refl;
-    found = λ e. let z : ◌≡◌ {A = ℕ} 0 1 = cc in absurd (omega arith);
+    found = λ e. cc;
   }
   said verdict.Found a =
       let least = judges.found a.0 a.1 a.2 in
       let many : length (path rows a.0) ≡ length es
       = ap length (sym least.lists) ∙ length-map least.run (thread_at es) ∙ run_length es least.run least.breaks.0.ordering in
       record {
-        never = λ e. let z : ◌≡◌ {A = ℕ} 0 1 = cc in absurd (omega arith);
+        never = λ e. cc;
         none = λ h. absurd (h least.run least.breaks);
         found = λ e. record {
           run = least.run;
@@ -61,7 +61,7 @@ module _ (o : Opening) (es : List Event) (m : Meaning) (recorded : Recorded o es
 
   by_reason : (q : Option JudgeRefusal) (r : Result Judgement JudgeRefusal) (rows' : List SearchRow) (list' : List ℕ) → JudgedFor q o es m rows list r rows' list'
       → SaysNone es m r × SaysFound es m r list'
-  by_reason (Some why) (Ok j) rows' list' e = let h = e.0 in let z : ◌≡◌ {A = ℕ} 0 1 = cc in absurd (omega arith)
+  by_reason (Some why) (Ok j) rows' list' e = let h = e.0 in cc
   by_reason (Some why) (Err w) rows' list' e = (tt, tt)
   by_reason None r rows' list' e = granted r rows' list' e
 

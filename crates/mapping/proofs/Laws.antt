@@ -19,7 +19,7 @@ use Rattle.mapping.specs.Mapped.{map_tests, MappedAs, EqualMapped, OneMapped}
 -- a granted map
 granted : (x : Option MapRefusal) (es : List Event) (before after : List Row) (m : ℕ) → MappedAs x es before (Ok m) after
     → (length es ≡ m) × MapOf es (take (length es) after)
-granted (Some why) es before after m h = let e = h.0 in let z : ◌≡◌ {A = ℕ} 0 1 = cc in absurd (omega arith)
+granted (Some why) es before after m h = let e = h.0 in cc
 granted None es before after m h = let e = h.0 in ((cc), h.1)
 
 pub equal_mapped : EqualMapped

@@ -37,8 +37,7 @@ all_fail (p ∷ ps) h =
     elim (cases_Bool p.0) [
       | inl e ↦
           let q : Some p.1 ≡ None = sym (ap (λ b. cond b (Some p.1) (first_fit ps)) e) ∙ h in
-          let z : ◌≡◌ {A = ℕ} 0 1 = cc in
-          absurd (omega arith)
+          cc
       | inr e ↦ (e, all_fail ps (sym (ap (λ b. cond b (Some p.1) (first_fit ps)) e) ∙ h))
     ]
 
@@ -52,14 +51,14 @@ same_value a b h =
 -- a test that fails although its first part holds fails in the second
 second : (x y : Bool) → (x && y) ≡ false → x ≡ true → y ≡ false
 second true y h e = h
-second false y h e = let z : ◌≡◌ {A = ℕ} 0 1 = cc in absurd (omega arith)
+second false y h e = cc
 
 is_free : (k : Lock) → not (free k) ≡ false → k ≡ Free
 is_free Free h = refl
-is_free (Held t) h = let z : ◌≡◌ {A = ℕ} 0 1 = cc in absurd (omega arith)
+is_free (Held t) h = cc
 
 is_held : (t : ℕ) (k : Lock) → not (held_by t k) ≡ false → k ≡ Held t
-is_held t Free h = let z : ◌≡◌ {A = ℕ} 0 1 = cc in absurd (omega arith)
+is_held t Free h = cc
 is_held t (Held u) h = ap Held (eqb-true u t (not-false (eqb u t) h))
 
 pub allowed : (o : Opening) (es : List Event) (a : Action) → refused o es a ≡ None → Allowed o es a
@@ -128,7 +127,7 @@ pub noted_from : (o : Opening) (es : List Event) → Each o es → Noted o es
 noted_from o es each = subst (Noted o) (take_all (length es) es (omega arith)) (noted_upto o es each (length es) (omega arith))
 
 decides_not_refused : (r : Option Refusal) → Decides (not_refused r) (r ≡ None)
-decides_not_refused (Some why) = ((λ h. let z : ◌≡◌ {A = ℕ} 0 1 = cc in absurd (omega arith)), (λ h. let z : ◌≡◌ {A = ℕ} 0 1 = cc in absurd (omega arith)))
+decides_not_refused (Some why) = ((λ h. cc), (λ h. cc))
 decides_not_refused None = ((λ h. refl), (λ h. refl))
 
 pub decides_noted : (o : Opening) (es : List Event) → Decides (noted o es) (Noted o es)
@@ -199,7 +198,7 @@ module _ (es : List Event) where
             (inl (i, omega arith, d.0 b, (λ k u w z. omega arith), refl))
         | inr b ↦
             subst (HasValue s x (suc i)) (sym (q ∙ ap (λ b'. cond b' e.value (latest s x (take i es))) b))
-            (value_kept s x i (latest s x (take i es)) (λ w. let z : true ≡ false = sym (d.1 w) ∙ b in let y : ◌≡◌ {A = ℕ} 0 1 = cc in omega arith) ih)
+            (value_kept s x i (latest s x (take i es)) (λ w. let z : true ≡ false = sym (d.1 w) ∙ b in cc) ih)
       ]
 
   -- k is lock l when i events are noted
@@ -233,7 +232,7 @@ module _ (es : List Event) where
       let k : Lock = lock_now (take i es) l in
       let q = ap (λ xs. lock_now xs l) (take_next es i h) ∙ lock_push Free l (take i es) e in
       let never : (b : Bool) (P : Type 0) → Decides b P → b ≡ false → P → ⊥
-      = λ b P dec f p. let z : true ≡ false = sym (dec.1 p) ∙ f in let y : ◌≡◌ {A = ℕ} 0 1 = cc in omega arith in
+      = λ b P dec f p. let z : true ≡ false = sym (dec.1 p) ∙ f in cc in
       elim (cases_Bool (is_of 3 l e)) [
         | inl b ↦
             subst (HasLock l (suc i)) (sym (q ∙ ap (λ b'. cond b' (Held e.thread) (cond (is_of 4 l e) Free k)) b))

@@ -15,8 +15,8 @@ module _ (es : List Event) (sound : Sound es) where
 
   same_steps : (c : Cut) (r s : List ℕ) → Steps es c r → Steps es c s → map (thread_at es) r ≡ map (thread_at es) s → r ≡ s
   same_steps c [] [] a b e = refl
-  same_steps c [] (j ∷ s) a b e = let z : ◌≡◌ {A = ℕ} 0 1 = cc in absurd (omega arith)
-  same_steps c (i ∷ r) [] a b e = let z : ◌≡◌ {A = ℕ} 0 1 = cc in absurd (omega arith)
+  same_steps c [] (j ∷ s) a b e = cc
+  same_steps c (i ∷ r) [] a b e = cc
   same_steps c (i ∷ r) (j ∷ s) a b e =
       let t : thread_at es i ≡ thread_at es j = cc in
       let ts : map (thread_at es) r ≡ map (thread_at es) s = cc in

@@ -25,8 +25,8 @@ use Rattle.pairs.proofs.Reaching.{decides_full}
 
 same_counts_eq : (c d : List ℕ) → same_counts c d ≡ true → c ≡ d
 same_counts_eq [] [] h = refl
-same_counts_eq [] (y ∷ d) h = let z : ◌≡◌ {A = ℕ} 0 1 = cc in absurd (omega arith)
-same_counts_eq (x ∷ c) [] h = let z : ◌≡◌ {A = ℕ} 0 1 = cc in absurd (omega arith)
+same_counts_eq [] (y ∷ d) h = cc
+same_counts_eq (x ∷ c) [] h = cc
 same_counts_eq (x ∷ c) (y ∷ d) h =
     let p = and_parts (eqb x y) (same_counts c d) h in ap₂ (λ u us. u ∷ us) (eqb-true x y p.0) (same_counts_eq c d p.1)
 

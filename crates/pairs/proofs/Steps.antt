@@ -67,7 +67,7 @@ is_at es c t k i o ih true false p q h = let f = ih h in record { noted = omega 
 is_at es c t k i o ih false b p q h = let f = ih h in record { noted = omega (arith, f.noted); own = f.own; follows = f.follows }
 
 follower_is : (es : List Event) (c : List ℕ) (t k i : ℕ) → follower es c t k ≡ Some i → Follows es c t k i
-follower_is es c t zero i e = let z : ◌≡◌ {A = ℕ} 0 1 = cc in absurd (omega arith)
+follower_is es c t zero i e = cc
 follower_is es c t (suc k) i e =
     is_at es c t k i (follower es c t k) (follower_is es c t k i) (eqb (thread_at es k) t) (may_follow es (cut_of c) k) refl refl e
 
@@ -97,7 +97,7 @@ module _ (es : List Event) (sound : Sound es) (n : ℕ) (m : Meaning) where
   next_is x y t e = go (follower es x.cut t (length es)) refl e
     where
       go : (o : Option ℕ) → follower es x.cut t (length es) ≡ o → moved_by es m x t o ≡ Some y → Moves es m x y t
-      go None p q = let z : ◌≡◌ {A = ℕ} 0 1 = cc in absurd (omega arith)
+      go None p q = cc
       go (Some i) p q =
           let f = follower_is es x.cut t (length es) i p in
           record { event = i; follows = (decides_may_follow es sound (cut_of x.cut) i).0 f.follows; own = f.own; is = cc }

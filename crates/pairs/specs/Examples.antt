@@ -1,6 +1,6 @@
 -- Worked examples: the pairs of small traces.
 use Rattle.std.specs.Prelude.{◌≡◌, ℕ, zero, suc, Bool, true, false, cond, not, ◌&&◌, ◌||◌, List, [], ◌∷◌, length, ℤ, pos, ◌==◌}
-use Rattle.std.proofs.Common.{arith}
+use Rattle.std.proofs.lemmas.Bool.{false≢true}
 use Rattle.events.specs.declared.event.Action.{Action}
 use Rattle.events.specs.declared.event.Event.{Event}
 use Rattle.events.specs.Events.{event_at}
@@ -34,7 +34,7 @@ begins zero a = cond (a.thread == 1) 1 2
 begins (suc code) a = suc code
 
 pub begins_stays : (code : ℕ) (a : Action) → (code == 1) ≡ true → (begins code a == 1) ≡ true
-begins_stays zero a h = let z : ◌≡◌ {A = ℕ} 0 1 = cc in absurd (omega arith)
+begins_stays zero a h = absurd (false≢true h)
 begins_stays (suc code) a h = h
 
 -- bad where thread 1 has the first event
