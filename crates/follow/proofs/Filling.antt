@@ -434,7 +434,7 @@ module _ (es : List Event) (fit : Fit es) (n : ℕ) (near : n < length es) where
         tallies = either (is_fed source) _ _ 98304 (length-set _ _ _ ∙ size) size;
       }
 
-  -- it is no other latest
+  -- to take leaves each latest as it is
   latest_taking : (v : Tables) (b : ℕ) (source : Option (ℕ × ℕ)) → Sizes v → b < 48 → (b' : ℕ) → (groups_in (taking v e b source) b').latest ≡ (groups_in v b').latest
   latest_taking v b source sizes l b' =
       elim (cases_Bool (is_fed source)) [

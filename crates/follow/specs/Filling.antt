@@ -19,11 +19,11 @@ blank_tables = record {
   tallies = replicate 98304 (record { led = 0; taken = 0 });
 }
 
--- one more
+-- one more, in 16 bits
 abbrev pub one_more : ℕ → ℕ
 one_more n = (n + 1) % 2 ^ 16
 
--- one more in a tally, and in a starting group
+-- one more led or taken in a tally, and one more in a starting group
 abbrev pub more_led : Tally → Tally
 more_led x = record { led = one_more x.led; taken = x.taken }
 
@@ -57,18 +57,19 @@ leading v e b = record {
   tallies = v.tallies;
 }
 
--- a source is a thread's of a trace
+-- there is a source, and it is of a thread that a trace can have
 abbrev pub is_fed : Option (ℕ × ℕ) → Bool
 is_fed (Some source) = nat_lt source.0 8
 is_fed None = false
 
--- it is counted at object b: as taken where it stands, and as led where its source stands, or as one of the starting group
+-- the tallies with the event counted at object b as taken where it stands, and as led where its source stands
 abbrev pub with_taken : Tables → Event → ℕ → List Tally
 with_taken v e b = slice_set v.tallies (cell_of e.thread e.place b) (more_taken (tally_in v e.thread e.place b))
 
 abbrev pub with_led : List Tally → ℕ × ℕ → ℕ → List Tally
 with_led tallies source b = slice_set tallies (cell_of source.0 source.1 b) (more_led (tally_at tallies source.0 source.1 b))
 
+-- it is counted at object b: as taken, and as led or as one of the starting group
 abbrev pub taking : Tables → Event → ℕ → Option (ℕ × ℕ) → Tables
 taking v e b source = record {
   total = v.total;
@@ -78,6 +79,7 @@ taking v e b source = record {
   tallies = cond (is_fed source) (with_led (with_taken v e b) (source_of source) b) (with_taken v e b);
 }
 
+-- it is taken in by its role
 abbrev pub entered : Tables → Event → Role → Tables
 entered v e (Take o) = let source = (groups_in v o.number).latest in placed (taking v e o.number source) e source
 entered v e (Lead o) = placed (leading v e o.number) e None

@@ -16,17 +16,19 @@ use Rattle.follow.specs.Roles.{Takes}
 abbrev pub slot_of : ℕ → ℕ → ℕ
 slot_of t p = t * 256 + p
 
--- where thread t's first c events stand, and object b
+-- where object b's tally for thread t's first c events stands
 abbrev pub cell_of : ℕ → ℕ → ℕ → ℕ
 cell_of t c b = slot_of t c * 48 + b
 
--- what stands at thread t's place p, object b's groups, and its tally for thread t's first c events
+-- what stands at thread t's place p
 abbrev pub standing_in : Tables → ℕ → ℕ → Standing
 standing_in tables t p = slice_index_or tables.standings (slot_of t p) (record { event = blank; source = None })
 
+-- object b's groups
 abbrev pub groups_in : Tables → ℕ → Groups
 groups_in tables b = slice_index_or tables.groups b (record { latest = None; starting = 0 })
 
+-- its tally for thread t's first c events
 abbrev pub tally_at : List Tally → ℕ → ℕ → ℕ → Tally
 tally_at tallies t c b = slice_index_or tallies (cell_of t c b) (record { led = 0; taken = 0 })
 

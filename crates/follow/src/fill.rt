@@ -73,15 +73,18 @@ impl Tables {
         requires { e.thread < 8 }
         ensures { Entered self.old e self.new }
     {
-        let mut source = None;
-        match role_of(e.kind, e.subject) {
+        let source = match role_of(e.kind, e.subject) {
             Role::Take(object) => {
-                source = self.groups[object.number].latest;
+                let source = self.groups[object.number].latest;
                 self.take(e, object, source);
+                source
             }
-            Role::Lead(object) => self.groups[object.number].latest = Some((e.thread, e.place)),
-            Role::Apart => {}
-        }
+            Role::Lead(object) => {
+                self.groups[object.number].latest = Some((e.thread, e.place));
+                None
+            }
+            Role::Apart => None,
+        };
         self.counts[e.thread as usize] = e.place;
         self.standings[slot(e.thread, e.place)] = Standing { event: e, source };
     }
