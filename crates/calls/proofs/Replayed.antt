@@ -1,5 +1,5 @@
 -- Replays on a trace: one answer is right, and which are granted.
-use Rattle.std.proofs.Common.{◌≡◌, ℕ, true, false, List, is_some, is_ok, Some, None, Ok, Err, Decides, Option, Result, sym, refl, ◌∙◌, arith}
+use Rattle.std.proofs.Common.{◌≡◌, ℕ, true, false, List, is_some, is_ok, Some, None, Ok, Err, Decides, Option, Result, sym, refl, ◌∙◌}
 use Rattle.events.specs.declared.event.Event.{Event}
 use Rattle.events.specs.declared.refusal.OpenRefusal.{OpenRefusal}
 use Rattle.events.specs.Noting.{Opening, Noted}
@@ -23,13 +23,13 @@ one_replay o es noted m ts r s x y = one_as o.void o es noted m ts r s x y
 
 module _ (m : Meaning) (es : List Event) (n : ℕ) (ts : List ℕ) where
   granted_as : (void : Option OpenRefusal) (r : Result Verdict ReplayRefusal) → ReplaysAs void n es m ts r → Decides (is_ok r) ((void ≡ None) × RunOf es ts)
-  granted_as (Some why) (Ok v) x = let z : ◌≡◌ {A = ℕ} 0 1 = cc in absurd (omega arith)
+  granted_as (Some why) (Ok v) x = absurd cc
   granted_as (Some why) (Err e) x = (
-    λ h. let z : ◌≡◌ {A = ℕ} 0 1 = cc in absurd (omega arith),
-    λ h. let q = h.0 in let z : ◌≡◌ {A = ℕ} 0 1 = cc in absurd (omega arith),
+    λ h. absurd cc,
+    λ h. let q = h.0 in absurd cc,
   )
   granted_as None (Ok v) x = (λ h. (refl, (x.run, x.consistent, x.threads)), λ h. refl)
-  granted_as None (Err e) x = (λ h. let z : ◌≡◌ {A = ℕ} 0 1 = cc in absurd (omega arith), λ h. absurd (x.1 h.1))
+  granted_as None (Err e) x = (λ h. absurd cc, λ h. absurd (x.1 h.1))
 
 pub granted : (o : Opening) (es : List Event) (m : Meaning) (ts : List ℕ) (r : Result Verdict ReplayRefusal) → Replays o es m ts r → Granted o es ts r
 granted o es m ts r x = granted_as m es o.threads ts o.void r x
@@ -37,14 +37,14 @@ granted o es m ts r x = granted_as m es o.threads ts o.void r x
 -- where the trace is void, and where it is not
 void_as : (void : Option OpenRefusal) (n : ℕ) (es : List Event) (m : Meaning) (ts : List ℕ) → is_some void ≡ true → ReplaysAs void n es m ts (Err Void)
 void_as (Some why) n es m ts e = refl
-void_as None n es m ts e = let z : ◌≡◌ {A = ℕ} 0 1 = cc in absurd (omega arith)
+void_as None n es m ts e = absurd cc
 
 pub when_void : (o : Opening) (es : List Event) (m : Meaning) (ts : List ℕ) → is_some o.void ≡ true → Replays o es m ts (Err Void)
 when_void o es m ts e = void_as o.void o.threads es m ts e
 
 open_as : (void : Option OpenRefusal) (n : ℕ) (es : List Event) (m : Meaning) (ts : List ℕ) (r : Result Verdict ReplayRefusal)
     → is_some void ≡ false → Outcome m es n ts r → ReplaysAs void n es m ts r
-open_as (Some why) n es m ts r e h = let z : ◌≡◌ {A = ℕ} 0 1 = cc in absurd (omega arith)
+open_as (Some why) n es m ts r e h = absurd cc
 open_as None n es m ts r e h = h
 
 pub when_open : (o : Opening) (es : List Event) (m : Meaning) (ts : List ℕ) (r : Result Verdict ReplayRefusal)

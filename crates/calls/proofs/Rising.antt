@@ -33,7 +33,7 @@ noted_ahead o es (a ∷ acts) (suc k) n = noted_ahead o (after o es a) acts k (n
 pub none_performed : (o : Opening) (es : List Event) → Performed o es [] [] es
 none_performed o es = record {
   as_many = refl;
-  each = λ k a q h g. let z : ◌≡◌ {A = ℕ} 0 1 = cc in absurd (omega arith);
+  each = λ k a q h g. absurd cc;
   leaves = refl;
 }
 
