@@ -1,5 +1,5 @@
 -- How far the actions of a recording are noted.
-use Rattle.std.proofs.Common.{◌≡◌, ℕ, ◌+◌, ◌<◌, List, [], ◌∷◌, ◌++◌, map, length, get_or, take, Some, None, Ok, Err, MatchResult, IsErrAnd, Option, Result, sym, refl, ap, ◌∙◌, subst, arith}
+use Rattle.std.proofs.Common.{◌≡◌, ℕ, ◌+◌, ◌<◌, List, [], ◌∷◌, ◌++◌, map, length, get_or, take, Some, None, Ok, Err, Option, sym, refl, ap, ◌∙◌, subst, arith}
 use Rattle.std.proofs.lemmas.List.{map-append, take_more}
 use Rattle.events.specs.declared.event.Action.{Action}
 use Rattle.events.specs.declared.event.Event.{Event}
@@ -11,13 +11,6 @@ use Rattle.predictor.specs.declared.fault.Fault.{Fault}
 use Rattle.predictor.specs.declared.fault.Fault.TheVariants.{Record}
 use Rattle.predictor.specs.declared.fault.RecordFault.TheVariants as record-fault
 use Rattle.predictor.specs.Outcome.{line_start, no_action, placed, Stuck}
-
--- an answer, with the line of what it refuses
-pub placed_by : (a : Result ℕ Refusal) (q : Result ℕ Fault) (line : ℕ) (Calls : Refusal → Fault → Type 0) → MatchResult a (λ p. q ≡ Ok p) (λ why. IsErrAnd q (Calls why))
-    → ((why : Refusal) (f : Fault) → Calls why f → f ≡ Record (record-fault.Noting why) (line_start line)) → q ≡ placed a line
-placed_by (Ok p) q line Calls h told = h
-placed_by (Err why) (Ok p) line Calls h told = elim h [ ]
-placed_by (Err why) (Err f) line Calls h told = ap Err (told why f h)
 
 -- the first i actions are noted as the events es
 pub record Progress (o : Opening) (actions : List Action) (es : List Event) (i : ℕ) : Type 0 where

@@ -10,24 +10,16 @@ use Rattle.judge.specs.declared.verdict.Judgement.{Judgement}
 use Rattle.grammar.specs.Recording as grammar
 use Rattle.text.specs.declared.place.Place.{Place}
 use Rattle.text.specs.declared.recording.Recording.{Recording}
-use Rattle.text.specs.declared.fault.ReadFault.{ReadFault}
-use Rattle.text.specs.declared.fault.ReadFault.TheVariants as read
 use Rattle.text.specs.Places.{byte_place}
 use Rattle.text.specs.Reading.{Answers, said}
 use Rattle.predictor.specs.declared.fault.Fault.{Fault}
 use Rattle.predictor.specs.declared.fault.Fault.TheVariants.{Text, Record, Rule, Search}
-use Rattle.predictor.specs.declared.fault.RecordFault.TheVariants as record-fault
 use Rattle.predictor.specs.declared.fault.Stop.{Stop}
 use Rattle.predictor.specs.declared.fault.Stop.TheVariants.{Faulty}
 use Rattle.predictor.specs.declared.predicting.Prediction.{Prediction}
-use Rattle.predictor.specs.Faults.{stop_of}
-use Rattle.predictor.specs.Outcome.{line_start, opens, opening_for, Whole, Stuck, NotesAll}
+use Rattle.predictor.specs.Outcome.{opens, opening_for, Whole}
 use Rattle.predictor.specs.Ruled.{Ruled}
 use Rattle.predictor.specs.Predicted.{Ready, Begins, rule_text, Predicted}
-
-void_fault : (v : Option OpenRefusal) (f : Fault) → Err f ≡ opens v → (why : OpenRefusal) × (v ≡ Some why) × (f ≡ Record (record-fault.Opening why) (line_start 1))
-void_fault (Some why) f h = (why, refl, cc)
-void_fault None f h = let z : ◌≡◌ {A = ℕ} 0 1 = cc in absurd (omega arith)
 
 not_void : (v : Option OpenRefusal) (u : Unit {0}) → Ok u ≡ opens v → v ≡ None
 not_void (Some why) u h = let z : ◌≡◌ {A = ℕ} 0 1 = cc in absurd (omega arith)
@@ -38,40 +30,14 @@ faulted g = Err (Faulty g)
 
 -- what was lent, and what it holds in the end
 module _ (t : List ℕ) (room : ℕ) (rows : List SearchRow) (list : List ℕ) where
-  unread : (cause : ReadFault) → Answers t (Err cause) → Predicted t room rows list (Err (stop_of cause)) rows list
-  unread (read.Text f) h = (h, (refl, refl))
-  unread read.Memory h = (refl, refl)
-
-  pub stopped_reading : (cause : ReadFault) (r : Result Prediction Stop) (s : Stop) → r ≡ Err s → s ≡ stop_of cause
-      → Answers t (Err cause) → Predicted t room rows list r rows list
-  stopped_reading cause r s e q h =
-      let P : Result Prediction Stop → Type 0 = λ x. Predicted t room rows list x rows list in
-      subst P (sym (e ∙ ap Err q)) (unread cause h)
-
   -- a recording that was read, and the opening that it asks for
   module _ (rec : Recording) (h : Answers t (Ok rec)) (o : Opening) (asked : o ≡ opened rec.threads (vec_items rec.starts) room) where
     abbrev pub spelled : grammar.Recording
     spelled = said rec h.0
 
-    pub stopped_opening : (r : Result Prediction Stop) (s : Stop) (f : Fault) → r ≡ Err s → s ≡ Faulty f → Err f ≡ opens o.void
-        → Predicted t room rows list r rows list
-    stopped_opening r s f e q bad =
-        let w = void_fault o.void f bad in
-        let P : Result Prediction Stop → Type 0 = λ x. Predicted t room rows list x rows list in
-        subst P (sym (e ∙ ap Err q ∙ ap faulted w.2))
-        (spelled, h.1, ap (λ (p : Opening). p.void) (sym asked) ∙ w.1, refl, (refl, refl))
-
     module _ (u : Unit {0}) (free : Ok u ≡ opens o.void) where
       opens_well : (opening_for spelled room).void ≡ None
       opens_well = ap (λ (p : Opening). p.void) (sym asked) ∙ not_void o.void u free
-
-      pub stopped_noting : (r : Result Prediction Stop) (s : Stop) (f : Fault) (es : List Event) → r ≡ Err s → s ≡ Faulty f
-          → NotesAll o (vec_items rec.actions) (Err f) es → Predicted t room rows list r rows list
-      stopped_noting r s f es e q n =
-          let P : Result Prediction Stop → Type 0 = λ x. Predicted t room rows list x rows list in
-          let Q : Opening → Type 0 = λ p. Stuck p (vec_items rec.actions) es n.0 n.1 in
-          subst P (sym (e ∙ ap Err q ∙ ap faulted n.3))
-          (spelled, h.1, opens_well, (es, n.0, subst Q asked n.2, refl), (refl, refl))
 
       module _ (es : List Event) (w : Whole o (vec_items rec.actions) es) where
         pub ready : Ready t room spelled es

@@ -1,5 +1,4 @@
 use Rattle.std.proofs.Common.{◌+◌, List, sym, refl, ◌∙◌, subst}
-use Rattle.std.proofs.lemmas.List.{take_all}
 use Rattle.std.proofs.lemmas.Result.{err_from_is_err_and}
 use Rattle.events.specs.declared.event.Action.{Action}
 use Rattle.events.specs.Noting.{Opening}
@@ -24,8 +23,8 @@ loop-i-preserved c =
       subst Q w (noted_next (opening_of c.loop-i.trace) actions (noted_of c.loop-i.trace) (noted_of c.note_line.new.trace) c.loop-i.i _ _ p c.loop-i-test.true h.says h.noted),
     )
 
-pub returns-in_err-note_line : goal.returns-in_err-note_line
-returns-in_err-note_line c =
+pub returns-in_err-note_line-clause-notes : goal.returns-in_err-note_line-clause-notes
+returns-in_err-note_line-clause-notes c =
     let h = c.in_err-note_line.ensures in
     let w = c.loop-i.invariant.0 in
     let actions : List Action = c.args.actions.now in
@@ -34,18 +33,4 @@ returns-in_err-note_line c =
     let f = err_from_is_err_and c.from_residual.result c.from_residual.ensures.1 in
     let s = stuck (opening_of c.loop-i.trace) actions (noted_of c.loop-i.trace) (noted_of c.note_line.new.trace) c.loop-i.i _ _ p c.loop-i-test.true h.says h.noted in
     let Q : Opening → Type 0 = λ o. Stuck o actions (noted_of c.note_line.new.trace) c.loop-i.i s.0 in
-    rw (f.1, f.2)
-    record {
-      notes = (c.loop-i.i, s.0, subst Q w s.1, s.2);
-      opening = h.opening ∙ w;
-      loan = h.loan ∙ c.loop-i.invariant.1;
-    }
-
-pub returns : goal.returns
-returns c =
-    let p = c.loop-i.invariant.2 in
-    record {
-      notes = record { noted = p.noted; all = p.ahead ∙ take_all c.loop-i.i c.args.actions.now c.loop-i-test.false };
-      opening = c.loop-i.invariant.0;
-      loan = c.loop-i.invariant.1;
-    }
+    rw (f.1, f.2) (c.loop-i.i, s.0, subst Q w s.1, s.2)

@@ -1,57 +1,17 @@
-use Rattle.std.proofs.Common.{◌≡◌, ℕ, List, length, ℤ, Ok, Err, Result, sym, ap, ◌∙◌, subst}
+use Rattle.std.proofs.Common.{List, length, ℤ, Ok, Err, ap, ◌∙◌, subst}
 use Rattle.std.proofs.lemmas.Result.{err_from_is_err_and}
 use Rattle.events.specs.declared.event.Action.{Action}
 use Rattle.events.specs.declared.event.Event.{Event}
 use Rattle.events.specs.Noting.{Opening, opened}
 use Rattle.trace.specs.Meaning.{opening_of, noted_of}
-use Rattle.predictor.specs.declared.fault.Stop.{Stop}
 use Rattle.predictor.specs.declared.predicting.Prediction.{Prediction}
-use Rattle.predictor.specs.Outcome.{Whole, NotesAll}
-use Rattle.predictor.specs.Predicted.{TellsRule}
-use Rattle.predictor.proofs.Stops.{spelled, stopped_reading, stopped_opening, stopped_noting, stopped_ruling, ready, ruled, counted}
+use Rattle.predictor.specs.Outcome.{Whole}
+use Rattle.predictor.proofs.Stops.{spelled, stopped_ruling, ready, ruled, counted}
 use Rattle.predictor.proofs.Telling.{told}
 use Rattle.predictor.proofs.predicting.predict.Goals as goal
 
--- of a fault the rule says nothing
-silent : (t : List ℕ) (room : ℕ) (r : Result Prediction Stop) (s : Stop) (list : List ℕ) → r ≡ Err s → TellsRule t room r list
-silent t room r s list e = let P : Result Prediction Stop → Type 0 = λ x. TellsRule t room x list in subst P (sym e) tt
-
-pub returns-in_err-recording : goal.returns-in_err-recording
-returns-in_err-recording c =
-    let p = err_from_is_err_and c.from_residual.result c.from_residual.ensures.1 in
-    record {
-      predicted = stopped_reading c.args.text.now (length c.args.rows.now) c.args.pairs.now c.args.threads.now _ _ p.0 p.1 p.2 c.in_err-recording.ensures;
-      rule = silent c.args.text.now (length c.args.rows.now) _ p.0 _ p.1;
-    }
-
-pub returns-in_err-opened : goal.returns-in_err-opened
-returns-in_err-opened c =
-    let p = err_from_is_err_and c.from_residual-in_err-opened.result c.from_residual-in_err-opened.ensures.1 in
-    let asked = c.open-trace.ensures.opening ∙ ap (λ (vs : List ℤ). opened c.in_ok-recording.recording.threads vs (length c.args.rows.now)) c.deref.ensures.value in
-    record {
-      predicted =
-          stopped_opening c.args.text.now (length c.args.rows.now) c.args.pairs.now c.args.threads.now
-          c.in_ok-recording.recording c.in_ok-recording.ensures
-          (opening_of c.open-trace.result) asked _ p.0 _ p.1 p.2 c.in_err-opened.ensures;
-      rule = silent c.args.text.now (length c.args.rows.now) _ p.0 _ p.1;
-    }
-
-pub returns-in_err-note_all : goal.returns-in_err-note_all
-returns-in_err-note_all c =
-    let p = err_from_is_err_and c.from_residual-in_err-note_all.result c.from_residual-in_err-note_all.ensures.1 in
-    let asked = c.open-trace.ensures.opening ∙ ap (λ (vs : List ℤ). opened c.in_ok-recording.recording.threads vs (length c.args.rows.now)) c.deref.ensures.value in
-    let Q : List Action → Type 0 = λ acts. NotesAll (opening_of c.open-trace.result) acts (Err c.in_err-note_all.field-0.0) (noted_of c.note_all.new.trace) in
-    record {
-      predicted =
-          stopped_noting c.args.text.now (length c.args.rows.now) c.args.pairs.now c.args.threads.now
-          c.in_ok-recording.recording c.in_ok-recording.ensures
-          (opening_of c.open-trace.result) asked c.in_ok-opened.field-0 c.in_ok-opened.ensures _ p.0 _ (noted_of c.note_all.new.trace) p.1 p.2
-          (subst Q c.deref-2.ensures.value c.in_err-note_all.ensures.notes);
-      rule = silent c.args.text.now (length c.args.rows.now) _ p.0 _ p.1;
-    }
-
-pub returns-in_err-judged : goal.returns-in_err-judged
-returns-in_err-judged c =
+pub returns-in_err-judged-clause-predicted : goal.returns-in_err-judged-clause-predicted
+returns-in_err-judged-clause-predicted c =
     let p = err_from_is_err_and c.from_residual-in_err-judged.result c.from_residual-in_err-judged.ensures.1 in
     let t = c.args.text.now in
     let room = length c.args.rows.now in
@@ -66,10 +26,7 @@ returns-in_err-judged c =
     let u = c.in_ok-opened.field-0 in
     let v = ruled t room c.args.pairs.now c.args.threads.now rec h o asked u free es whole (opening_of c.note_all.new.trace) (Err c.in_err-judged.field-0.0) c.judge_rule.new.pairs c.judge_rule.new.threads
     c.in_ok-note_all.ensures.opening c.in_err-judged.ensures in
-    record {
-      predicted = stopped_ruling t room c.args.pairs.now c.args.threads.now rec h o asked u free es whole _ p.0 _ c.judge_rule.new.pairs c.judge_rule.new.threads p.1 p.2 v;
-      rule = silent t room _ p.0 _ p.1;
-    }
+    stopped_ruling t room c.args.pairs.now c.args.threads.now rec h o asked u free es whole _ p.0 _ c.judge_rule.new.pairs c.judge_rule.new.threads p.1 p.2 v
 
 pub returns : goal.returns
 returns c =
