@@ -1,5 +1,9 @@
 // Numbers from their digits.
-ghost use Rattle.std.specs.Prelude.{◌≡◌, IsUtf8};
+ghost use Rattle.std.specs.Prelude.{◌≡◌, List, ℕ, Err, Result, IsUtf8};
+ghost use Rattle.std.specs.Int.{w32};
+ghost use Rattle.std.specs.Str.Parse.{ParsesSigned, ParsesUnsigned};
+ghost use Rattle.std.specs.declared.num.ParseIntError.{ParseIntError as NoNumber};
+ghost use Rattle.text.specs.declared.fault.TextFault.TheVariants.{OutOfRange};
 ghost use Rattle.grammar.specs.Recording.{Piece, bytes};
 ghost use Rattle.grammar.specs.Recording as piece;
 ghost use Rattle.text.specs.Ranges.{ParsedAt, Short, fitting};
@@ -15,14 +19,21 @@ pub trait Number: Sized {
     // the piece of a text that spells the number
     ghost spelling: { Self → Piece };
 
-    // The number that the digits at a place spell, which has to be in the range of its piece.
+    // what the library's parsing tells of any bytes of characters
+    ghost parses: { List ℕ → Result Self NoNumber → Type 0 };
+
+    // The number that the digits at a place spell, which has to be in the range of its piece. Of any
+    // other bytes it says what the library's parsing does.
     fn read(digits: &[u8], place: Place) -> Result<Self, TextFault>
-        ensures { (n : Self) → Short (spelling n) → digits.now ≡ bytes (spelling n) → result ≡ fitting (spelling n) n place };
+        ensures spelt { (n : Self) → Short (spelling n) → digits.now ≡ bytes (spelling n) → result ≡ fitting (spelling n) n place }
+        ensures parsed { IsUtf8 digits.now → ParsedAt parses digits.now place result }
+        ensures other { (IsUtf8 digits.now → ⊥) → result ≡ Err (OutOfRange place) };
 }
 
 // The number that the bytes at a place spell: any others are out of range.
 fn parse<T: FromStr<Err = ParseIntError>>(digits: &[u8], place: Place) -> Result<T, TextFault>
-    ensures { IsUtf8 digits.now → ParsedAt T.from_str_gives digits.now place result }
+    ensures parsed { IsUtf8 digits.now → ParsedAt T.from_str_gives digits.now place result }
+    ensures other { (IsUtf8 digits.now → ⊥) → result ≡ Err (OutOfRange place) }
 {
     let fault = TextFault::OutOfRange(place);
     let digits = str::from_utf8(digits).map_err(|_| fault)?;
@@ -33,6 +44,8 @@ fn parse<T: FromStr<Err = ParseIntError>>(digits: &[u8], place: Place) -> Result
 impl Number for u8 {
     ghost spelling = { piece.small };
 
+    ghost parses = { ParsesUnsigned 8 10 };
+
     fn read(digits: &[u8], place: Place) -> Result<u8, TextFault> {
         parse::<u8>(digits, place)
     }
@@ -41,6 +54,8 @@ impl Number for u8 {
 // Values, behind a minus or not: of 32 bits.
 impl Number for i32 {
     ghost spelling = { piece.wide };
+
+    ghost parses = { ParsesSigned w32 10 };
 
     fn read(digits: &[u8], place: Place) -> Result<i32, TextFault> {
         parse::<i32>(digits, place)

@@ -8,4 +8,4 @@ returns-in_err-part-clause-taken g c whole ps rest n is stand next = elim (numbe
 
 pub returns-clause-taken : goal.returns-clause-taken
 returns-clause-taken g c whole ps rest n is stand next =
-    number_taken (meet stand next c.digits.ensures.moved) is n c.in_ok-part.part.now c.in_ok-part.place c.read.result (search rules) (c.read.ensures n)
+    number_taken (meet stand next c.digits.ensures.moved) is n c.in_ok-part.part.now c.in_ok-part.place c.read.result (search rules) (c.read.ensures.spelt n)
