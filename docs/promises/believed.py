@@ -8,7 +8,7 @@
 A promise is a list of contracts, given by crate, function and clause. From the names in a clause the tool goes by the `use` lines of the file to
 the definitions in specs/ and to the types and traits in src/, and from those on, down to the toolchain's own library, whose names it lists. It
 counts the lines of each definition without blank lines, comments and `use` lines. Lemmas that stand in specs/ are checked, and so are the ghost
-fields of a struct: nobody has to believe them, and they are not counted. TIED and HANDED_OUT below name what is read by its contract alone.
+fields of a struct: nobody has to believe them, and they are not counted. What a struct is seen as (`impl Model`) is counted with it. TIED and HANDED_OUT below name what is read by its contract alone.
 
 With --root PATH the crates of another tree are read.
 """
@@ -154,7 +154,7 @@ class File:
         self.crate = path.relative_to(CRATES).parts[0]
         self.text = code(path.read_text())
         self.names, self.aliases = {}, {}
-        for m in re.finditer(r"^(?:ghost )?(?:pub )?use ([^;{\n]+?(?:::)?)(?:\.?\{([^}]*)\})?(?: as (\S+?))?;?$", self.text, flags=re.M):
+        for m in re.finditer(r"^ *(?:ghost )?(?:pub )?use ([^;{\n]+?(?:::)?)(?:\.?\{([^}]*)\})?(?: as (\S+?))?;?$", self.text, flags=re.M):
             module, names, alias = m.group(1).strip(), m.group(2), m.group(3)
             if names is not None:
                 for part in names.split(","):
@@ -200,7 +200,7 @@ class Source(File):
     def __init__(self, path):
         super().__init__(path)
         self.items, self.clauses = {}, {}
-        rows, owner, function = self.text.split("\n"), None, None
+        rows, owner, function, model = self.text.split("\n"), None, None, None
         for n, row in enumerate(rows):
             m = re.match(r"^(?:pub(?:\(crate\))? )?(struct|enum|trait) ([A-Za-z0-9_]+)", row)
             if m:
@@ -213,6 +213,11 @@ class Source(File):
                 if m.group(1) == "struct":
                     body = [b for b in body if not b.strip().startswith("ghost ")]
                 self.items[m.group(2)] = Item(self.crate, path, n + 1, m.group(2), m.group(1), body)
+            m = re.match(r"^impl Model for ([A-Za-z0-9_]+)", row)
+            model = m.group(1) if m else (None if row.startswith("}") else model)
+            if model in self.items and row.strip().startswith(("ghost view ", "ghost Value ")):
+                # what the type is seen as in contracts
+                self.items[model].body.append(row)
             m = re.match(r"^(?:pub )?impl(?:<[^>]*>)? (?:\S+ for )?([A-Za-z0-9_]+)", row)
             owner = m.group(1) if m else (None if row.startswith("}") else owner)
             m = re.match(r"^\s*(?:pub(?:\(crate\))? )?fn ([a-z0-9_]+)", row)
