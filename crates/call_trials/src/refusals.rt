@@ -111,6 +111,8 @@ pub fn judges(rt: &HostRuntime) -> io::Result<()> {
     let Ok(automaton) = Automaton::new(2, 0, 1, &arcs) else {
         return Ok(());
     };
+    let mut pairs = [SearchRow::BLANK; 65537];
+    let mut threads = [9u8; 4];
     let lent = [
         ("judge with 65537 rows", 65537, 4),
         ("judge with 65536 rows", 65536, 4),
@@ -120,8 +122,8 @@ pub fn judges(rt: &HostRuntime) -> io::Result<()> {
         ("judge with 6 rows", 6, 4),
     ];
     for (call, rows, list) in lent {
-        let mut pairs = [SearchRow::BLANK; 65537];
-        let mut threads = [9u8; 4];
+        pairs.fill(SearchRow::BLANK);
+        threads.fill(9);
         say(
             rt,
             call,
