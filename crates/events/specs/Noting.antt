@@ -31,6 +31,10 @@ opened_as None threads starts room = record { void = None; threads = threads; st
 abbrev pub opened : ℕ → List ℤ → ℕ → Opening
 opened threads starts room = opened_as (first_fit (open_tests threads starts room)) threads starts room
 
+-- the starting values of a trace so opened, or the reason why it is void
+abbrev pub opened_or_why : Opening → Result (List ℤ) OpenRefusal
+opened_or_why o = elim o.void [ Some why ↦ Err why | None ↦ Ok o.starts ]
+
 abbrev pub eq_z : ℤ → ℤ → Bool
 eq_z a b = not (int_lt a b) && not (int_lt b a)
 

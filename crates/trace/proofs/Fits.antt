@@ -5,9 +5,9 @@ use Rattle.events.specs.declared.event.Action.{Action}
 use Rattle.events.specs.declared.lock.Lock.TheVariants.{Free}
 use Rattle.events.specs.declared.refusal.Refusal.{Refusal}
 use Rattle.events.specs.declared.refusal.Refusal.TheVariants.{ThreadFull, RowsFull}
-use Rattle.events.specs.First.{first_fit}
+use Rattle.events.specs.First.{first_fit, told}
 use Rattle.trace.specs.declared.state.State.{State}
-use Rattle.trace.specs.Steps.{form_tests, value_tests, lock_tests, room_tests, step_tests, told, or_else, placed}
+use Rattle.trace.specs.Steps.{form_tests, value_tests, lock_tests, room_tests, step_tests, or_else, placed}
 
 -- where a part gives no reason, the rest decides
 pub fit_later : {R : Type 0} (xs ys : List (Bool × R)) → first_fit xs ≡ None → first_fit (xs ++ ys) ≡ first_fit ys

@@ -47,11 +47,6 @@ step_tests s spare a =
     ++ (lock_tests (slice_index_or s.locks a.subject Free) a.kind a.thread
     ++ room_tests s spare a.thread))
 
--- a check's answer, where the reason to refuse is given
-abbrev pub told : Option Refusal → Result (Unit {0}) Refusal
-told (Some why) = Err why
-told None = Ok tt
-
 -- the reason, or else what a later check answers
 abbrev pub or_else : Option Refusal → Result (Unit {0}) Refusal → Result (Unit {0}) Refusal
 or_else (Some why) later = Err why

@@ -1,16 +1,24 @@
 // What a trace was opened with, and what it has noted.
 ghost use Rattle.std.specs.Prelude.{◌≡◌};
-ghost use Rattle.events.specs.Noting.{Noted};
+ghost use Rattle.events.specs.Noting.{Noted, opened_or_why};
 ghost use Rattle.trace.specs.Meaning.{opening_of, noted_of, void_number};
 ghost use Rattle.trace.specs.Places.{event_by, StandsAt};
 
 use crate::Trace;
 use crate::place::Place;
-use events::{Event, OpenRefusal};
+use events::{Event, OpenRefusal, Starts};
 
 impl<'a> Trace<'a> {
+    // The starting values of the variables, or why the trace is void.
+    pub fn opened(&self) -> Result<Starts, OpenRefusal>
+        ensures { result ≡ opened_or_why (opening_of self.now) }
+    {
+        self.state.setting.map(|setting| setting.starts)
+    }
+
     // Why the trace is void, if it is.
-    // Stays an Option: this tells the reason to those who ask, and refuses nothing.
+    // Stays an Option: a user who asks for the reason gets it; who needs a trace that is not void
+    // asks `opened`.
     pub fn void(&self) -> Option<OpenRefusal>
         ensures { result ≡ (opening_of self.now).void }
     {

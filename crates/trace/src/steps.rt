@@ -1,8 +1,8 @@
 // A state takes in an action, or refuses it by the first reason that fits.
 ghost use Rattle.std.specs.Prelude.{◌≡◌, ◌<◌, slice_index, slice_index_or};
-ghost use Rattle.events.specs.First.{first_fit};
+ghost use Rattle.events.specs.First.{first_fit, told};
 ghost use Rattle.events.specs.declared.lock.Lock.TheVariants.{Free};
-ghost use Rattle.trace.specs.Steps.{value_tests, lock_tests, room_tests, step_tests, told, or_else, Admits, placed, after, changed, counted, next_place, stepped};
+ghost use Rattle.trace.specs.Steps.{value_tests, lock_tests, room_tests, step_tests, or_else, Admits, placed, after, changed, counted, next_place, stepped};
 
 use crate::admitted::Admitted;
 use crate::locks::turn;
