@@ -1,6 +1,6 @@
 // How a value has to compare with the constant of an arc.
 ghost use Rattle.std.specs.Prelude.{◌≡◌};
-ghost use Rattle.automaton.specs.Arcs.{comparison_of, holds};
+ghost use Rattle.automaton.specs.Arcs.{comparison_with, holds};
 
 #[derive(Clone, Copy, Debug, PartialEq, Eq)]
 pub enum Comparison {
@@ -11,17 +11,23 @@ pub enum Comparison {
     Any,
 }
 
-// The comparison with this number: 0 equal, 1 less, 2 greater and 3 any. A higher number, which no
-// automaton's arc has, is taken for 3.
-impl From<u8> for Comparison {
-    ghost from_gives = { λ number comparison. comparison ≡ comparison_of number };
+// A number that is no comparison's.
+#[derive(Clone, Copy, Debug, PartialEq, Eq)]
+pub struct NoComparison;
 
-    fn from(number: u8) -> Comparison {
+// The comparison with this number, if there is one: 0 equal, 1 less, 2 greater and 3 any.
+impl TryFrom<u8> for Comparison {
+    type Error = NoComparison;
+
+    ghost try_from_gives = { λ number comparison. comparison ≡ comparison_with number };
+
+    fn try_from(number: u8) -> Result<Comparison, NoComparison> {
         match number {
-            0 => Comparison::Equal,
-            1 => Comparison::Less,
-            2 => Comparison::Greater,
-            _ => Comparison::Any,
+            0 => Ok(Comparison::Equal),
+            1 => Ok(Comparison::Less),
+            2 => Ok(Comparison::Greater),
+            3 => Ok(Comparison::Any),
+            _ => Err(NoComparison),
         }
     }
 }

@@ -13,6 +13,8 @@ pub enum AutomatonFault {
 }
 
 impl AutomatonFault {
+    // Stays a method, as at every fault: those that hold a place or a cause give up more by their
+    // number than a From may.
     pub fn number(self) -> u8
         ensures { result ≡ fault_number self }
     {

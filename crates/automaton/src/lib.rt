@@ -13,5 +13,5 @@ pub mod watch;
 
 pub use arc::Arc;
 pub use automaton::Automaton;
-pub use comparison::Comparison;
+pub use comparison::{Comparison, NoComparison};
 pub use fault::AutomatonFault;

@@ -3,16 +3,16 @@ use lib.Bits.{bit_or}
 use Rattle.codes.proofs.Bitwise.{bit_zero}
 use Rattle.automaton.specs.Moves.{leaving}
 use Rattle.automaton.proofs.Turns.{Marks, marks_yes, marks_no}
-use Rattle.automaton.proofs.moves.turned.Goals as goal
-use Rattle.automaton.proofs.moves.turned.Goals.{then-leaves_by, else-leaves_by}
+use Rattle.automaton.proofs.automaton.Automaton.turned.Goals as goal
+use Rattle.automaton.proofs.automaton.Automaton.turned.Goals.{then-leaves_by, else-leaves_by}
 
 pub loop-arc-init : goal.loop-arc-init
 loop-arc-init c = (λ s _. bit_zero s, λ s _. bit_zero s)
 
 pub loop-arc-preserved : goal.loop-arc-preserved
 loop-arc-preserved c =
-    let passes = leaving c.args.bad c.args.code c.args.action in
-    let arcs = c.args.arcs.now in
+    let passes = leaving c.args.self.now.bad c.args.code c.args.action in
+    let arcs = c.args.self.now.arcs.now in
     let i = c.loop-arc.arc-index in
     let at = c.loop-arc-test.true in
     elim c.if-leaves_by.branch [

@@ -1,9 +1,0 @@
-use Rattle.std.proofs.Common.{take}
-use Rattle.automaton.specs.Moves.{leaving}
-use Rattle.automaton.proofs.Turns.{Marks}
-use Rattle.automaton.proofs.moves.turned.Given as goal
-
-abbrev pub invariant-loop-arc : goal.invariant-loop-arc
-invariant-loop-arc l =
-    Marks (leaving l.bad l.code l.action) (λ arc. arc.from) (take l.arc-index l.arcs) l.left
-    × Marks (leaving l.bad l.code l.action) (λ arc. arc.to) (take l.arc-index l.arcs) l.reached
