@@ -15,7 +15,7 @@ use std::marker::PhantomData;
 #[derive(Drop)]
 struct Exploration<'m, 'l, 'r, N, R, M> {
     machine: &'m M,
-    // Lent, and not owned: a proof does not follow a loan that is two structs deep.
+    // Stays lent, and not owned: a proof does not follow a loan that is two structs deep.
     list: &'l mut Rows<'r, R>,
     nodes: PhantomData<N>,
 }
@@ -55,6 +55,7 @@ impl<N: Copy, R: Entry<N>, M: Machine<N>> Exploration<'_, '_, '_, N, R, M> {
         ensures goes_on { GoesOn self.old self.new }
         ensures leaves { Leaves (M.Machine.system self.new.machine.now) (length (lent self.new.list.now)) (rows_by R.Entry (listed self.new.list.now)) (i + 1) 0 result }
     {
+        // Stays a range: labels are numbers, and no list of them stands anywhere.
         for label in 0..self.machine.labels() {
             self.try_label(i, label)?;
         }
@@ -68,7 +69,7 @@ impl<N: Copy, R: Entry<N>, M: Machine<N>> Exploration<'_, '_, '_, N, R, M> {
         ensures goes_on { GoesOn self.old self.new }
         ensures holds { Holds (M.Machine.system self.new.machine.now) (length (lent self.new.list.now)) (rows_by R.Entry (listed self.new.list.now)) (is_ok result) }
     {
-        // No step leads to row 0, and it has 0 and 255 for one: rows are numbers that callers read.
+        // No step leads to row 0; 0 and 255 stand for one. Stays so: callers read rows as numbers.
         self.list.push(R::new(self.machine.first(), 0, 255))?;
         // Stays a loop by index: the list grows while it is gone through.
         let mut i = 0;

@@ -7,9 +7,9 @@ use crate::entry::Traced;
 // Why a path is not given.
 #[derive(Clone, Copy, Debug, PartialEq, Eq)]
 pub enum NoPath {
-    // There is no such row.
+    // there is no such row
     NoRow,
-    // The list of labels is too short.
+    // the list of labels is too short
     Short,
 }
 
@@ -18,7 +18,7 @@ fn parent<R: Traced>(rows: &[R], i: usize) -> Option<usize>
     ensures { result ≡ parent_of (map R.Traced.found_from rows.now) i }
 {
     let from = rows.get(i)?.from();
-    if from < i { Some(from) } else { None }
+    (from < i).then_some(from)
 }
 
 // How many steps lead to a row.
@@ -26,7 +26,7 @@ fn parent<R: Traced>(rows: &[R], i: usize) -> Option<usize>
 fn depth<R: Traced>(rows: &[R], row: usize) -> usize
     ensures { result ≡ length (path_by R.Traced.found_from R.Traced.found_by rows.now row) }
 {
-    // Stays a loop: the library's `successors` have no end that a proof knows of.
+    // Stays a loop: the library's `successors` has no end that a proof knows of.
     let mut place = row;
     let mut n = 0;
     while let Some(from) = parent(rows, place) {

@@ -14,7 +14,8 @@ pub trait Keyed<K> {
     ghost decides: { (k : K) (row : Self) → Decides (has k row) (keyed row ≡ k) };
 }
 
-// The place of the first row with the key.
+// The place of the first row with the key. Stays beside `Rows::find`: it looks in any rows, also in
+// those of no list.
 pub fn find_in<K: Copy, R: Keyed<K>>(rows: &[R], key: K) -> Option<usize>
     ensures value { result ≡ position (R.Keyed.has key) rows.now }
     ensures first { StandsFirst R.Keyed.keyed key rows.now result }
