@@ -20,6 +20,8 @@ pub struct Action {
 pub struct Event {
     pub thread: u8,
     pub place: u8,
+    // Stays a number: a row of events and a row of a map give the kind so, and callers lend and read
+    // those rows.
     pub kind: u8,
     pub subject: u8,
     pub value: i32,
@@ -57,7 +59,7 @@ impl Event {
     };
 
     // What the event's thread did.
-    // Stays a method: `event.action()` is plainer than `Action::from(event)`.
+    // Stays a method, and no From: it is the way back from `at`, which takes a place besides.
     pub fn action(&self) -> Action
         ensures { result ≡ action_of self.now }
     {

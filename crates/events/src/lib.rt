@@ -6,10 +6,12 @@ pub mod event;
 pub mod kind;
 pub mod lock;
 pub mod refusal;
+pub mod sizes;
 pub mod starts;
 
 pub use event::{Action, Event};
 pub use kind::{Kind, NoKind};
 pub use lock::Lock;
 pub use refusal::{OpenRefusal, Refusal};
+pub use sizes::{EVENT_ROWS, LABELS, LOCKS, THREADS, VARIABLES};
 pub use starts::Starts;

@@ -41,7 +41,8 @@ pub enum Refusal {
     RowsFull = 19,
 }
 
-// Stays a method, as at every fault: `why.number()` is plainer than `u8::from(why)`.
+// Stays a method, as at every fault: each is asked for its number in one way, also those that hold
+// a place or a cause and so are more than their number.
 impl OpenRefusal {
     pub fn number(self) -> u8
         ensures { result ≡ open_number self }
@@ -50,7 +51,8 @@ impl OpenRefusal {
     }
 }
 
-// Stays a method, as at every fault: `why.number()` is plainer than `u8::from(why)`.
+// Stays a method, as at every fault: each is asked for its number in one way, also those that hold
+// a place or a cause and so are more than their number.
 impl Refusal {
     pub fn number(self) -> u8
         ensures { result ≡ note_number self }

@@ -1,13 +1,15 @@
 // The starting values of a trace's variables.
-ghost use Rattle.std.specs.Prelude.{◌≡◌, ◌<◌, ◌≤◌, ℤ, List, [], length, IsNone, ◌↔◌, IfSome, slice_get};
+ghost use Rattle.std.specs.Prelude.{◌≡◌, ◌<◌, ◌≤◌, ℤ, List, length, IsNone, ◌↔◌, IfSome, slice_get};
 
+use crate::sizes::VARIABLES;
 use std::marker::Model;
 
 // At most 32 values, seen as their list. The table holds 0 beyond them.
-// Stays a table with a count: calls on a trace take no heap.
+// Stays a table with a count: it takes no heap as a Vec does, and it is copied and shows its whole
+// table, which an ArrayVec does not.
 #[derive(Clone, Copy, Debug, PartialEq, Eq)]
 pub struct Starts {
-    values: [i32; 32],
+    values: [i32; VARIABLES],
     count: usize,
 }
 
@@ -29,26 +31,16 @@ impl Model for Starts {
 impl Starts {
     ghost use Rattle.events.specs.Starts.{filled};
 
-    // No values.
-    pub fn none() -> Starts
-        ensures { result ≡ [] }
-    {
-        Starts {
-            values: [0; 32],
-            count: 0,
-        }
-    }
-
     // These values, if there are at most 32.
     pub fn new(values: &[i32]) -> Option<Starts>
         ensures many { IsNone result ↔ (32 < length values.now) }
         ensures values { IfSome result (λ starts. starts ≡ values.now) }
     {
         let count = values.len();
-        if count > 32 {
+        if count > VARIABLES {
             return None;
         }
-        let mut table = [0; 32];
+        let mut table = [0; VARIABLES];
         table[..count].copy_from_slice(values);
         Some(Starts {
             values: table,
@@ -72,7 +64,7 @@ impl Starts {
     }
 
     // The values, and 0 beyond them.
-    pub fn table(&self) -> [i32; 32]
+    pub fn table(&self) -> [i32; VARIABLES]
         ensures { result ≡ filled self.now }
     {
         self.values

@@ -1,5 +1,5 @@
 -- What a trace means: what it was opened with, and the events that it has noted.
-use Rattle.std.specs.Prelude.{◌≡◌, ℕ, List, length, ℤ, Some, None, Option, slice_set}
+use Rattle.std.specs.Prelude.{◌≡◌, ℕ, List, length, Some, None, Option, slice_set}
 use Rattle.std.specs.Borrow.{GName}
 use Rattle.events.specs.declared.event.Action.{Action}
 use Rattle.events.specs.declared.event.Event.{Event}
@@ -23,9 +23,6 @@ rows_of t = lent t.rows
 
 abbrev pub loan_of : Trace → GName
 loan_of t = loan t.rows
-
-abbrev pub action_by : ℕ → ℕ → ℕ → ℤ → Action
-action_by thread kind subject value = record { thread = thread; kind = kind; subject = subject; value = value }
 
 -- why the trace refuses an action, if it does
 abbrev pub refused_by : Trace → Action → Option Refusal

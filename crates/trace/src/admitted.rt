@@ -5,7 +5,7 @@ ghost use Rattle.trace.specs.Subjects.{most_subjects};
 
 use events::{Action, Kind};
 
-// An action with its kind, where the thread and the subject are there.
+// An action with its kind, whose thread and subject exist.
 #[derive(Clone, Copy)]
 pub struct Admitted {
     pub(crate) kind: Kind,

@@ -8,6 +8,7 @@ use events::{Kind, Lock, Refusal};
 
 // The lock takes in its acquire or release by the thread. Whether it may comes first, and then
 // whether there is room for the event; a refusal changes nothing.
+// Stays a parameter: the room, since the lock is written in place here, and only where there is room.
 pub(crate) fn turn(
     lock: &mut Lock,
     kind: Kind,

@@ -9,7 +9,7 @@ ghost use Rattle.trace.specs.Meaning.{opening_of, noted_of, rows_of, loan_of};
 use crate::Trace;
 use crate::setting::Setting;
 use crate::state::State;
-use events::{Event, Lock};
+use events::{Event, LOCKS, Lock, THREADS, VARIABLES};
 use rows::Rows;
 
 impl State {
@@ -21,20 +21,23 @@ impl State {
         ensures counts { result.counts ≡ replicate 8 0 }
     {
         let setting = Setting::new(threads, starts, rows);
+        // Stays a match: that `map_or` over the lent setting answers this table was not found.
         let values = match &setting {
             Ok(setting) => setting.starts.table(),
-            Err(_) => [0; 32],
+            Err(_) => [0; VARIABLES],
         };
         State {
             setting,
             values,
-            locks: [Lock::Free; 16],
-            counts: [0; 8],
+            locks: [Lock::Free; LOCKS],
+            counts: [0; THREADS],
         }
     }
 }
 
 impl<'a> Trace<'a> {
+    // The trace of so many threads, with these starting values, over these rows. It has no event, and
+    // is void where there is a reason for it.
     pub fn open(threads: u8, starts: &[i32], rows: &'a mut [Event]) -> Trace<'a>
         ensures opening { opening_of result ≡ opened threads starts.now (length rows.old) }
         ensures noted { noted_of result ≡ [] }

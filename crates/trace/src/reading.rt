@@ -30,29 +30,25 @@ impl<'a> Trace<'a> {
     pub fn number(&self) -> u8
         ensures { result ≡ void_number (opening_of self.now).void }
     {
-        match &self.state.setting {
-            Ok(_) => 0,
-            Err(why) => why.number(),
-        }
+        self.void().map_or(0, |why| why.number())
     }
 
+    // The number of threads.
+    // Stays a plain number: a void trace has no thread, and its number of threads is 0.
     pub fn threads(&self) -> u8
         ensures { result ≡ (opening_of self.now).threads }
     {
-        match &self.state.setting {
-            Ok(setting) => setting.threads,
-            Err(_) => 0,
-        }
+        self.state.setting.map_or(0, |setting| setting.threads)
     }
 
-    // The starting values of the variables.
+    // The starting values of the variables: a void trace has none.
     pub fn starts(&self) -> &[i32]
         ensures { result.now ≡ (opening_of self.now).starts }
     {
-        match &self.state.setting {
-            Ok(setting) => setting.starts.as_slice(),
-            Err(_) => &[],
-        }
+        self.state
+            .setting
+            .as_ref()
+            .map_or(&[], |setting| setting.starts.as_slice())
     }
 
     // The noted events, in their order: each was accepted after those ahead of it.

@@ -3,7 +3,7 @@ ghost use Rattle.std.specs.Prelude.{◌≡◌, ◌≤◌, length};
 ghost use Rattle.events.specs.Kinds.{kind_number};
 ghost use Rattle.events.specs.Noting.{opened, subjects};
 
-use events::{Kind, OpenRefusal, Starts};
+use events::{EVENT_ROWS, Kind, LABELS, LOCKS, OpenRefusal, Starts, THREADS};
 
 // The number of threads, and the starting values of the variables.
 #[derive(Clone, Copy)]
@@ -21,11 +21,11 @@ impl Setting {
     pub(crate) fn new(threads: u8, starts: &[i32], rows: usize) -> Result<Setting, OpenRefusal>
         ensures { opening_with result rows ≡ opened threads starts.now rows }
     {
-        if threads == 0 || threads > 8 {
+        if threads == 0 || threads as usize > THREADS {
             return Err(OpenRefusal::Threads);
         }
         let starts = Starts::new(starts).ok_or(OpenRefusal::Variables)?;
-        if rows > 1024 {
+        if rows > EVENT_ROWS {
             return Err(OpenRefusal::Rows);
         }
         Ok(Setting { threads, starts })
@@ -36,9 +36,9 @@ impl Setting {
         ensures { result ≡ subjects (opening_by self.now 0) (kind_number kind) }
     {
         match kind {
-            Kind::Internal => 32,
+            Kind::Internal => LABELS,
             Kind::Read | Kind::Write => self.starts.count(),
-            Kind::Acquire | Kind::Release => 16,
+            Kind::Acquire | Kind::Release => LOCKS,
         }
     }
 }

@@ -10,7 +10,7 @@ use crate::state::State;
 use events::{Action, Kind, Refusal};
 
 impl State {
-    // Whether there is room for one more event of the thread, where a row is spare or none is.
+    // Whether there is room for one more event of the thread. The flag says whether a row is spare.
     fn room(&self, admitted: Admitted, spare: bool) -> Result<(), Refusal>
         ensures { result ≡ told (first_fit (room_tests self.now spare admitted.action.thread)) }
     {
