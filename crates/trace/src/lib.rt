@@ -22,10 +22,10 @@ pub use place::Place;
 use rows::Rows;
 pub use state::State;
 
-// Stays two things in clauses, `opening_of` and `noted_of`, and no record of both: the definitions of
-// events take an opening and a list, also where the list is no trace's.
 // The state is what the opening and the noted events make it, and each event was accepted after
 // those ahead of it.
+// Stays two things in clauses, `opening_of` and `noted_of`, and no record of both: the definitions of
+// events take an opening and a list, also where the list is no trace's.
 #[derive(Drop)]
 pub struct Trace<'a> {
     pub(crate) state: State,
