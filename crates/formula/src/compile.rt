@@ -2,7 +2,7 @@
 ghost use Rattle.std.specs.Prelude.{◌≡◌, ◌<◌, ◌≤◌, length, slice_get, slice_index, Some, None, IfSome, IfNone};
 ghost use Rattle.formula.specs.Words.{CompiledTo, BlankBeyond, OneFormula, Placing, Missing};
 
-use crate::node::{Node, Table};
+use crate::node::{MOST, Node, Table};
 use crate::word::Word;
 
 // The number of the word behind the subformula that begins at a word, if one begins there.
@@ -12,15 +12,26 @@ fn end_of(ends: &[u8], at: u8) -> Option<u8>
     ends.get(usize::from(at)).copied()
 }
 
-// The same of the two subformulas that begin there, one behind the other.
-fn ends_of(ends: &[u8], at: u8) -> Option<(u8, u8)>
-    ensures first { IfSome result (λ p. slice_get ends.now at ≡ Some p.0) }
-    ensures second { IfSome result (λ p. slice_get ends.now p.0 ≡ Some p.1) }
-    ensures missing { IfNone result (at < length ends.now → length ends.now ≤ slice_index ends.now at) }
+// The node that has the subformula from `at` on as its part, and the number of the word behind it.
+fn with_part<F: Fn(u8) -> Node>(node: F, at: u8, ends: &[u8]) -> Option<(Node, u8)>
+    requires { F.pre node at }
+    ensures some { IfSome result (λ p. F.post node at p.0 × (slice_get ends.now at ≡ Some p.1)) }
+    ensures none { IfNone result (length ends.now ≤ at) }
+{
+    let end = end_of(ends, at)?;
+    Some((node(at), end))
+}
+
+// The node that has as its parts the subformula from `at` on and the one behind that, and the number
+// of the word behind both.
+fn with_parts<F: Fn(u8, u8) -> Node>(node: F, at: u8, ends: &[u8]) -> Option<(Node, u8)>
+    requires { F.IsAlwaysCallable node }
+    ensures some { IfSome result (λ p. (middle : _) × (slice_get ends.now at ≡ Some middle) × F.post node at middle p.0 × (slice_get ends.now middle ≡ Some p.1)) }
+    ensures none { IfNone result (at < length ends.now → length ends.now ≤ slice_index ends.now at) }
 {
     let middle = end_of(ends, at)?;
     let end = end_of(ends, middle)?;
-    Some((middle, end))
+    Some((node(at, middle), end))
 }
 
 // The node of word i, and the number of the word behind its subformula. None if a part is missing.
@@ -37,17 +48,14 @@ fn placing(word: Word, i: u8, ends: &[u8]) -> Option<(Node, u8)>
         Word::Gt(x, c) => Some((Node::Gt(x, c), next)),
         Word::Mark(k) => Some((Node::Mark(k), next)),
         Word::By(t) => Some((Node::By(t), next)),
-        Word::Not => end_of(ends, next).map(|end| (Node::Not(next), end)),
-        Word::Before => end_of(ends, next).map(|end| (Node::Before(next), end)),
-        Word::Once => end_of(ends, next).map(|end| (Node::Once(next), end)),
-        Word::Always => end_of(ends, next).map(|end| (Node::Always(next), end)),
-        Word::And => ends_of(ends, next).map(|(middle, end)| (Node::And(next, middle), end)),
-        Word::Or => ends_of(ends, next).map(|(middle, end)| (Node::Or(next, middle), end)),
-        Word::Implies => ends_of(ends, next).map(|(middle, end)| (
-            Node::Implies(next, middle),
-            end,
-        )),
-        Word::Since => ends_of(ends, next).map(|(middle, end)| (Node::Since(next, middle), end)),
+        Word::Not => with_part(Node::Not, next, ends),
+        Word::Before => with_part(Node::Before, next, ends),
+        Word::Once => with_part(Node::Once, next, ends),
+        Word::Always => with_part(Node::Always, next, ends),
+        Word::And => with_parts(Node::And, next, ends),
+        Word::Or => with_parts(Node::Or, next, ends),
+        Word::Implies => with_parts(Node::Implies, next, ends),
+        Word::Since => with_parts(Node::Since, next, ends),
     }
 }
 
@@ -58,12 +66,12 @@ pub fn compile(words: &[Word]) -> Option<Table>
     ensures beyond { BlankBeyond result }
     ensures one { OneFormula words.now }
 {
-    if words.is_empty() || words.len() > 60 {
+    if words.is_empty() || words.len() > MOST {
         return None;
     }
-    // Two arrays, and none of pairs: the nodes are handed out, and the ends serve here alone.
-    let mut nodes = [Node::Mark(0); 60];
-    let mut room = [0; 60];
+    // Stays two arrays, and none of pairs: the nodes are handed out, and the ends serve here alone.
+    let mut nodes = [Node::Mark(0); MOST];
+    let mut room = [0; MOST];
     let ends = &mut room[..words.len()];
     for (i, word) in words.iter().enumerate().rev() {
         let (node, end) = placing(*word, i as u8, ends)?;
@@ -71,9 +79,5 @@ pub fn compile(words: &[Word]) -> Option<Table>
         ends[i] = end;
     }
     let len = words.len() as u8;
-    if ends[0] == len {
-        Some(Table { nodes, len })
-    } else {
-        None
-    }
+    (ends[0] == len).then_some(Table { nodes, len })
 }

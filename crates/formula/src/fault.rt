@@ -5,7 +5,7 @@ ghost use Rattle.formula.specs.declared.fault.RuleFault.TheVariants.{Text};
 
 use text::{Place, TextFault};
 
-// Those of subformulas have the place of the subformula's bracket.
+// A fault of a subformula has the place of the subformula's bracket.
 #[derive(Clone, Copy, Debug, PartialEq, Eq)]
 pub enum RuleFault {
     // the trace is void
@@ -23,6 +23,7 @@ pub enum RuleFault {
 }
 
 impl RuleFault {
+    // Stays a method, as at every fault: it is what users call, and the reasons of the text keep their own numbers.
     pub fn number(self) -> u8
         ensures { result ≡ rule_number self }
     {
@@ -41,7 +42,7 @@ impl RuleFault {
         ensures { result ≡ rule_place self }
     {
         match self {
-            RuleFault::Void => Place { line: 1, column: 1 },
+            RuleFault::Void => Place::START,
             RuleFault::Text(fault) => fault.place(),
             RuleFault::TooMany(place)
             | RuleFault::Variable(place)

@@ -1,6 +1,9 @@
 // Tables of subformulas.
 ghost use Rattle.std.specs.Prelude.{◌≡◌, ◌<◌, ◌≤◌, length, take};
 
+// The most subformulas that a formula may have.
+pub(crate) const MOST: usize = 60;
+
 // One subformula. It names a variable and a constant, a label, a thread, or its parts by their
 // numbers. Its own enum beside Word: one enum for both would need a type for parts, empty in a word.
 #[derive(Clone, Copy, Debug, PartialEq, Eq)]
@@ -24,7 +27,7 @@ pub enum Node {
 // Fixed memory, since making a formula has no heap.
 #[derive(Clone, Copy)]
 pub struct Table {
-    pub nodes: [Node; 60],
+    pub nodes: [Node; MOST],
     pub len: u8,
     ghost some: { 0 < len },
     ghost few: { len ≤ 60 },

@@ -2,14 +2,18 @@
 ghost use Rattle.std.specs.Prelude.{◌≡◌, ◌<◌, ◌≤◌, List, [], ◌∷◌, ◌++◌, length, take};
 ghost use Rattle.formula.specs.declared.word.Word.{Word as Spoken};
 
+use crate::node::MOST;
 use crate::word::Word;
 use std::marker::Model;
+
+// One more than a formula may have: whoever finds so many knows that there are too many.
+const ROOM: usize = MOST + 1;
 
 // The first 61 words of a formula: one more than a formula may have. Fixed memory, since making a
 // formula has no heap, and not one type with Table, which is filled from its end.
 #[derive(Drop)]
 pub(crate) struct Spelling {
-    words: [Word; 61],
+    words: [Word; ROOM],
     len: usize,
 }
 
@@ -26,7 +30,7 @@ impl Spelling {
         ensures { result ≡ [] }
     {
         Spelling {
-            words: [Word::Not; 61],
+            words: [Word::Not; ROOM],
             len: 0,
         }
     }
@@ -36,7 +40,7 @@ impl Spelling {
         ensures room { length self.old < 61 → self.new ≡ self.old ++ word ∷ [] }
         ensures full { 61 ≤ length self.old → self.new ≡ self.old }
     {
-        if self.len < 61 {
+        if self.len < ROOM {
             self.words[self.len] = word;
             self.len += 1;
         }

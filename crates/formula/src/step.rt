@@ -1,19 +1,17 @@
-// Codes of a formula: one pass over the table makes the code after an event.
-ghost use Rattle.std.specs.Prelude.{◌≡◌, ℕ, pos, slice_index_or};
+// What an event makes of one subformula.
+ghost use Rattle.std.specs.Prelude.{◌≡◌, pos, slice_index_or};
 ghost use Rattle.codes.specs.Codes.{bit_of};
-ghost use Rattle.formula.specs.Meant.{starts_of};
-ghost use Rattle.formula.specs.Step.{met, truth, initial, started, stepped, writes, Turn};
+ghost use Rattle.formula.specs.Step.{met, truth, initial, writes};
 
-use crate::formula::Formula;
-use crate::node::Node;
-use codes::{has, only};
+use crate::node::{MOST, Node};
+use codes::has;
 use events::{Action, Kind, Starts};
 
 // The bits of a code beside those of the subformulas: whether there was an event yet, and whether the
-// formula was false after one. A code stays a number, as every monitor hands one out.
-pub(crate) const BEGUN: u8 = 60;
+// formula was false after one. Stays a number, as every monitor hands one out.
+pub(crate) const BEGUN: u8 = MOST as u8;
 
-pub(crate) const BAD: u8 = 61;
+pub(crate) const BAD: u8 = BEGUN + 1;
 
 fn is_write(action: Action, variable: u8) -> bool
     ensures { result ≡ writes action variable }
@@ -35,7 +33,8 @@ fn meets(node: Node, value: i32) -> bool
 
 // Whether subformula i is true after the action. `code` has the truths ahead of it, and `next` those
 // after it of the later subformulas.
-fn holds(node: Node, i: u8, code: u64, next: u64, action: Action) -> bool
+// Stays two parameters, code and action: the code is the formula's, the action the trace's.
+pub(crate) fn holds(node: Node, i: u8, code: u64, next: u64, action: Action) -> bool
     ensures { result ≡ truth node i (bit_of code) (bit_of next) action }
 {
     let later = has(code, BEGUN);
@@ -67,45 +66,11 @@ fn start_of(starts: &Starts, variable: u8) -> i32
 }
 
 // Whether a subformula is a comparison that the starting values meet.
-fn begins(node: Node, starts: &Starts) -> bool
+pub(crate) fn begins(node: Node, starts: &Starts) -> bool
     ensures { result ≡ initial starts.now node }
 {
     match node {
         Node::Eq(x, _) | Node::Lt(x, _) | Node::Gt(x, _) => meets(node, start_of(starts, x)),
         _ => false,
     }
-}
-
-// The code ahead of the first event.
-pub(crate) fn start_code(formula: &Formula) -> u64
-    ensures { result ≡ started (starts_of formula.now) formula.now.table.nodes formula.now.table.len }
-{
-    let mut code = 0;
-    for (i, node) in formula.table.as_slice().iter().enumerate() {
-        if begins(*node, &formula.starts) {
-            code |= only(i as u8);
-        }
-    }
-    code
-}
-
-// The code after the action. Parts stand behind the subformulas that they are parts of, so the pass
-// goes from the last subformula to the first.
-pub(crate) fn next_code(formula: &Formula, code: u64, action: Action) -> u64
-    ensures value { result ≡ stepped formula.now.table.nodes formula.now.table.len code action }
-    ensures rule { Turn formula.now.table.nodes formula.now.table.len code action result }
-    ensures alone { (q : ℕ) → Turn formula.now.table.nodes formula.now.table.len code action q → q ≡ result }
-{
-    let mut next = 0;
-    for (i, node) in formula.table.as_slice().iter().enumerate().rev() {
-        let i = i as u8;
-        if holds(*node, i, code, next, action) {
-            next |= only(i);
-        }
-    }
-    let mut all = next | only(BEGUN);
-    if has(code, BAD) || !has(next, 0) {
-        all |= only(BAD);
-    }
-    all
 }

@@ -5,6 +5,7 @@ ghost use Rattle.formula.specs.Spelling.{FaultBy};
 ghost use Rattle.formula.specs.Suiting.{suits, refused};
 
 use crate::fault::RuleFault;
+use crate::node::MOST;
 use crate::spelling::Spelling;
 use crate::word::Word;
 use text::{Place, place_at};
@@ -48,8 +49,8 @@ pub(crate) fn check(spelling: &Spelling, text: &[u8], variables: usize) -> Resul
     ensures { FaultBy spelling.now variables text.now result }
 {
     let words = spelling.as_slice();
-    if words.len() > 60 {
-        return Err(RuleFault::TooMany(place_at(text, bracket(text, 60))));
+    if words.len() > MOST {
+        return Err(RuleFault::TooMany(place_at(text, bracket(text, MOST))));
     }
     match words.iter().position(|word| !is_suited(*word, variables)) {
         Some(j) => Err(refusal(words[j], place_at(text, bracket(text, j)))),

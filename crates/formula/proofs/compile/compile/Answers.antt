@@ -1,9 +1,11 @@
-use Rattle.std.proofs.Common.{◌≡◌, ◌<◌, length, sym, ◌∙◌, inl, inr, ⊎_elim, subst, arith, length-set}
+use Rattle.std.proofs.Common.{◌≡◌, ◌<◌, Bool, true, false, length, Some, None, Option, sym, refl, ◌∙◌, inl, inr, ⊎_elim, subst, arith, length-set}
+use Rattle.std.specs.Bool.{then_some}
 use Rattle.std.proofs.lemmas.Bool.{eqb-true, eqb-false}
 use Rattle.std.proofs.lemmas.List.{drop-set-lt, drop-replicate}
 use Rattle.formula.specs.declared.node.Node.TheVariants.{Mark}
+use Rattle.formula.specs.declared.node.Table.{Table}
 use Rattle.formula.specs.Truth.{size}
-use Rattle.formula.specs.Words.{no_word, word_at, Placing, Missing, CompiledTo}
+use Rattle.formula.specs.Words.{no_word, word_at, Placing, Missing, CompiledTo, BlankBeyond}
 use Rattle.formula.proofs.Backward.{Taken, taken}
 use Rattle.formula.proofs.Spelt.{more}
 use Rattle.formula.proofs.Views.{none_fits, same_size, stuck}
@@ -44,20 +46,24 @@ returns-in_err-node-clause-table c =
     subst (CompiledTo ws) (sym c.from_residual.ensures)
     (λ few f s. stuck ws (length ws) l.nodes l.ends i t.low (λ j m u. l.invariant.good j (omega (arith, t.more)) u) miss f s.0 s.1)
 
-pub returns-then-ends-len-clause-table : goal.returns-then-ends-len-clause-table
-returns-then-ends-len-clause-table c =
-    let g = c.loop-i.invariant.good 0 (omega (arith, c.in-None.ensures.steps.1.0)) (omega arith) in
-    let same : size g.form ≡ length c.args.words.now = omega (arith, g.ends_at, c.if-ends-len.true) in
-    (omega arith, (g.form, (g.spelt, same), record { numbered = g.numbered; all = sym same }))
+-- what is so of the table where it is handed out, and of none where it is not
+either : (P : Option Table → Type 0) (same : Bool) (t : Table) (r : Option Table) → r ≡ then_some same t → (same ≡ true → P (Some t)) → (same ≡ false → P None) → P r
+either P true t r e there missing = subst P (sym e) (there refl)
+either P false t r e there missing = subst P (sym e) (missing refl)
 
-pub returns-then-ends-len-clause-beyond : goal.returns-then-ends-len-clause-beyond
-returns-then-ends-len-clause-beyond c = c.loop-i.invariant.blank ∙ drop-replicate (length c.args.words.now) 60 (Mark 0)
-
-pub returns-else-ends-len-clause-table : goal.returns-else-ends-len-clause-table
-returns-else-ends-len-clause-table c few f s =
+pub returns-clause-table : goal.returns-clause-table
+returns-clause-table c =
     let ws = c.args.words.now in
     let none = eqb-false (length ws) 0 (sym c.is_empty.ensures ∙ c.if-is_empty.false) in
     let some : 0 < length ws = omega (arith, none) in
     let g = c.loop-i.invariant.good 0 (omega (arith, c.in-None.ensures.steps.1.0)) some in
-    let same = same_size ws 0 f g.form s.0 g.spelt in
-    c.if-ends-len.false (omega (arith, g.ends_at, same, s.1))
+    either (CompiledTo ws) _ _ _ c.then_some.ensures
+    (λ e.
+        let same : size g.form ≡ length ws = omega (arith, g.ends_at, eqb-true _ _ e) in
+        (omega arith, (g.form, (g.spelt, same), record { numbered = g.numbered; all = sym same })))
+    (λ e few f s.
+        let same = same_size ws 0 f g.form s.0 g.spelt in
+        eqb-false _ _ e (omega (arith, g.ends_at, same, s.1)))
+
+pub returns-clause-beyond : goal.returns-clause-beyond
+returns-clause-beyond c = either BlankBeyond _ _ _ c.then_some.ensures (λ e. c.loop-i.invariant.blank ∙ drop-replicate (length c.args.words.now) 60 (Mark 0)) (λ e. tt)

@@ -9,12 +9,12 @@ use Rattle.formula.specs.declared.node.Node.{Node}
 use Rattle.formula.specs.Table.{node_at, no_node}
 use Rattle.formula.proofs.Backward.{rest, begun, Taken, taken}
 use Rattle.formula.proofs.Ends.{whole_yes, whole_no, settled}
-use Rattle.formula.proofs.step.next_code.Goals as goal
-use Rattle.formula.proofs.step.next_code.Goals.{then-has-via-then-has, then-has-via-else-has+then-not-has}
+use Rattle.formula.proofs.watch.FormulaMonitor.step.Goals as goal
+use Rattle.formula.proofs.watch.FormulaMonitor.step.Goals.{then-bad-via-then-bad, then-bad-via-else-bad+then-not-has}
 
 pub loop-i-init : goal.loop-i-init
 loop-i-init c =
-    let t = c.args.formula.now in
+    let t = c.args.self.now in
     let whole : rest c.into_iter-i-iterator.result ≡ c.as_slice.result.now = cc (c.into_iter-i-iterator.ensures.into_iter_gives, c.rev-i-items.ensures.source, c.enumerate.ensures.source, c.iter.ensures.rest) in
     let n : length (rest c.into_iter-i-iterator.result) ≡ t.table.len = ap length whole ∙ c.as_slice.ensures.len in
     record {
@@ -30,7 +30,7 @@ item nodes n i node h e =
 
 pub loop-i-preserved-then-holds : goal.loop-i-preserved-then-holds
 loop-i-preserved-then-holds c =
-    let t = c.args.formula.now in
+    let t = c.args.self.now in
     let l = c.loop-i in
     let i = c.in-Some.i in
     let h = c.in-Some.ensures.steps in
@@ -46,7 +46,7 @@ loop-i-preserved-then-holds c =
 
 pub loop-i-preserved : goal.loop-i-preserved
 loop-i-preserved c =
-    let t = c.args.formula.now in
+    let t = c.args.self.now in
     let l = c.loop-i in
     let i = c.in-Some.i in
     let h = c.in-Some.ensures.steps in
@@ -59,15 +59,15 @@ loop-i-preserved c =
           ∙ ap (λ j. code_of 62 (from t.table.len (eval t.table.len t.table.nodes (bit_of c.args.code) c.args.action) j)) k.here;
     }
 
-pub returns-then-has : goal.returns-then-has
-returns-then-has c =
-    let t = c.args.formula.now in
+pub returns-then-bad : goal.returns-then-bad
+returns-then-bad c =
+    let t = c.args.self.now in
     let end : length (rest c.loop-i.i-iterator) ≡ 0 = c.in-None.ensures.steps.1.0 in
     let inv = c.loop-i.invariant.truths ∙ ap (λ i. code_of 62 (from t.table.len (eval t.table.len t.table.nodes (bit_of c.args.code) c.args.action) i)) end in
     let told : (bit_of c.args.code 61 || not (bit_of c.loop-i.next 0)) ≡ true =
-    elim c.then-has.branch [
-      | then-has-via-then-has w ↦ or_left _ _ (sym w.if-has.ensures)
-      | then-has-via-else-has+then-not-has w ↦ or_right _ _ (not_from_false _ (sym w.if-not-has.ensures))
+    elim c.then-bad.branch [
+      | then-bad-via-then-bad w ↦ or_left _ _ (sym w.if-bad.ensures)
+      | then-bad-via-else-bad+then-not-has w ↦ or_right _ _ (not_from_false _ (sym w.if-not-has.ensures))
     ] in
     let value = ap (λ x. bit_or (bit_or c.loop-i.next x) c.only-all.result) (c.only.ensures ∙ only_pow 60 (omega arith))
     ∙ ap (bit_or (bit_or c.loop-i.next (2 ^ 60))) (c.only-all.ensures ∙ only_pow 61 (omega arith))
@@ -77,11 +77,11 @@ returns-then-has c =
 
 pub returns-else-not-has : goal.returns-else-not-has
 returns-else-not-has c =
-    let t = c.args.formula.now in
+    let t = c.args.self.now in
     let end : length (rest c.loop-i.i-iterator) ≡ 0 = c.in-None.ensures.steps.1.0 in
     let inv = c.loop-i.invariant.truths ∙ ap (λ i. code_of 62 (from t.table.len (eval t.table.len t.table.nodes (bit_of c.args.code) c.args.action) i)) end in
     let told : (bit_of c.args.code 61 || not (bit_of c.loop-i.next 0)) ≡ false =
-    or_from _ _ (sym c.if-has.ensures) (not_from_true _ (sym c.if-not-has.ensures)) in
+    or_from _ _ (sym c.if-bad.ensures) (not_from_true _ (sym c.if-not-has.ensures)) in
     let value = ap (bit_or c.loop-i.next) (c.only.ensures ∙ only_pow 60 (omega arith))
     ∙ whole_no t.table.len t.table.nodes t.table.some t.table.few c.args.code c.args.action c.loop-i.next inv told in
     let s = settled (length t.starts) t.table.len t.table.nodes t.sound t.table.some t.table.few c.args.code c.args.action _ value in

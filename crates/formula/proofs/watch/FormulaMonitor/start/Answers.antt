@@ -6,11 +6,11 @@ use Rattle.formula.specs.Step.{initial, started}
 use Rattle.formula.specs.Table.{node_at, no_node}
 use Rattle.codes.proofs.Bitwise.{only_pow}
 use Rattle.formula.proofs.Ends.{begun, begun_none, begun_yes, begun_no}
-use Rattle.formula.proofs.step.start_code.Goals as goal
-use Rattle.formula.proofs.step.start_code.Goals.{then-begins, else-begins}
+use Rattle.formula.proofs.watch.FormulaMonitor.start.Goals as goal
+use Rattle.formula.proofs.watch.FormulaMonitor.start.Goals.{then-begins, else-begins}
 
 pub loop-i-init : goal.loop-i-init
-loop-i-init c = begun_none (starts_of c.args.formula.now) c.args.formula.now.table.nodes
+loop-i-init c = begun_none (starts_of c.args.self.now) c.args.self.now.table.nodes
 
 -- the subformula that is looked at
 same : (nodes items : List Node) (n i : ℕ) → items ≡ take n nodes → i < n → get_or items i no_node ≡ node_at nodes i
@@ -18,7 +18,7 @@ same nodes items n i e h = ap (λ ns. get_or ns i no_node) e ∙ get_or-take n n
 
 pub loop-i-preserved : goal.loop-i-preserved
 loop-i-preserved c =
-    let t = c.args.formula.now in
+    let t = c.args.self.now in
     let i = c.loop-i.i in
     let low : i < t.table.len = omega arith in
     let known : initial t.starts (node_at t.table.nodes i) ≡ initial t.starts (get_or c.as_slice-node-items.result.now i no_node) =
@@ -34,6 +34,6 @@ loop-i-preserved c =
 pub returns : goal.returns
 unfolding started
 returns c =
-    let t = c.args.formula.now in
+    let t = c.args.self.now in
     let end : c.loop-i.i ≡ t.table.len = omega arith in
     c.loop-i.invariant ∙ ap (begun (starts_of t) t.table.nodes) end
