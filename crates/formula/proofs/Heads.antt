@@ -1,5 +1,5 @@
 -- The word of a formula, read where the formula stands in a text.
-use Rattle.std.proofs.Common.{◌≡◌, ℕ, ◌+◌, List, ◌∷◌, ◌++◌, get_or, drop, ℤ, pos, Ok, decimal, Result, sym, refl, ap, ◌∙◌, subst}
+use Rattle.std.proofs.Common.{◌≡◌, ℕ, ◌+◌, ◌-◌, ◌<◌, ◌≤◌, List, ◌∷◌, ◌++◌, length, take, get_or, get_or-take, length-take, arith, drop, ℤ, pos, Ok, decimal, Result, sym, refl, ap, ◌∙◌, subst}
 use Rattle.std.specs.Fmt.{signed_decimal}
 use Rattle.std.proofs.lemmas.List.{drop-drop, get_or-drop}
 use Rattle.grammar.specs.Recording.{Formula, eq, lt, gt, mark, by, neg, before, once, always, and, or, implies, since}
@@ -72,6 +72,10 @@ read ImpliesW p n = Ok ImpliesW
 read SinceW p n = Ok SinceW
 
 module _ (t : List ℕ) (k : ℕ) where
+  -- the byte that stands i behind k, where the text from k on has it
+  pub letter : (i a : ℕ) → 3 ≤ length (take (length t - k) (drop k t)) → i < 3 → get_or (take (length t - k) (drop k t)) i 0 ≡ a → get_or t (k + i) 0 ≡ a
+  letter i a long low e = sym (get_or-drop k t i 0) ∙ sym (get_or-take (length t - k) (drop k t) i 0 (omega (arith, length-take (length t - k) (drop k t)))) ∙ e
+
   -- a formula's first letters
   letters : (a b : ℕ) (rest : List ℕ) → drop k t ≡ 40 ∷ a ∷ b ∷ rest → operator (get_or t (k + 1) 0) (get_or t (k + 2) 0) ≡ operator a b
   letters a b rest e =

@@ -5,7 +5,9 @@ ghost use Rattle.std.specs.Prelude.{◌≡◌, ◌<◌, ◌≤◌, length, take}
 pub(crate) const MOST: usize = 60;
 
 // One subformula. It names a variable and a constant, a label, a thread, or its parts by their
-// numbers. Its own enum beside Word: one enum for both would need a type for parts, empty in a word.
+// numbers.
+// Stays an enum beside Word: one enum for both would have a type parameter for its parts, which stands
+// for nothing in a word, so that a word would be `Not(())` or `And((), ())`.
 #[derive(Clone, Copy, Debug, PartialEq, Eq)]
 pub enum Node {
     Eq(u8, i32),
@@ -24,7 +26,9 @@ pub enum Node {
 }
 
 // The subformulas of a formula in the order of their words, from number 0: the first `len` rows.
-// Fixed memory, since making a formula has no heap.
+// Stays a table with a count, and no ArrayVec: it is copied with the formula, and is filled from its
+// last row on. Stays two fields in the contracts, and no list seen by Model: what stands beyond the
+// rows is promised too.
 #[derive(Clone, Copy)]
 pub struct Table {
     pub nodes: [Node; MOST],

@@ -1,5 +1,6 @@
-// Numbers in the text of a formula. The text and a place in it stay two parameters: each call is at
-// another place, where a struct of the two would be made anew.
+// Numbers in the text of a formula.
+// Stays a text and a place in it, and no Reader of the text: one would begin at the first byte, and go
+// through all that stands ahead of the number again.
 ghost use Rattle.std.specs.Prelude.{◌≡◌, ◌+◌, ◌≤◌, length, take, drop};
 ghost use Rattle.formula.specs.Reading.{digits, number_width, ReadsNumber, ReadsPair};
 

@@ -40,9 +40,7 @@ impl Formula {
         ensures made { MadeOver (opening_of trace.now) text.now result }
         ensures watches { WatchesText (opening_of trace.now).starts text.now result }
     {
-        match trace.void() {
-            Some(_) => Err(RuleFault::Void),
-            None => made(Starts::new(trace.starts()).unwrap(), text),
-        }
+        let starts = trace.opened().map_err(|_| RuleFault::Void)?;
+        made(starts, text)
     }
 }

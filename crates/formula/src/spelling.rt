@@ -9,8 +9,9 @@ use std::marker::Model;
 // One more than a formula may have: whoever finds so many knows that there are too many.
 const ROOM: usize = MOST + 1;
 
-// The first 61 words of a formula: one more than a formula may have. Fixed memory, since making a
-// formula has no heap, and not one type with Table, which is filled from its end.
+// The first words of a formula.
+// Stays a table with a count: making a formula takes no heap, and the crates rest on none of the kit's
+// but std, so it is no ArrayVec. Not one type with Table, which is filled from its last row on.
 #[derive(Drop)]
 pub(crate) struct Spelling {
     words: [Word; ROOM],

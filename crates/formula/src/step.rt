@@ -8,7 +8,8 @@ use codes::has;
 use events::{Action, Kind, Starts};
 
 // The bits of a code beside those of the subformulas: whether there was an event yet, and whether the
-// formula was false after one. Stays a number, as every monitor hands one out.
+// formula was false after one.
+// Stays a number: a code of any monitor is 64 bits, by which cuts are told apart.
 pub(crate) const BEGUN: u8 = MOST as u8;
 
 pub(crate) const BAD: u8 = BEGUN + 1;

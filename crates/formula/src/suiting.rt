@@ -22,6 +22,7 @@ fn is_suited(word: Word, variables: usize) -> bool
 }
 
 // Why a word that is not suited is refused.
+// Stays beside is_suited: a place is looked up for the one word that is refused, and not for each.
 fn refusal(word: Word, place: Place) -> RuleFault
     ensures { result ≡ refused word place }
 {
@@ -33,6 +34,7 @@ fn refusal(word: Word, place: Place) -> RuleFault
 }
 
 // Where the opening bracket stands that has this many others ahead of it, or 0 if there is none.
+// Stays 0 for none: each word that was read has its bracket, but `check` takes any text.
 fn bracket(text: &[u8], ahead: usize) -> usize
     ensures { result ≡ bracket_at text.now ahead }
 {
@@ -52,8 +54,8 @@ pub(crate) fn check(spelling: &Spelling, text: &[u8], variables: usize) -> Resul
     if words.len() > MOST {
         return Err(RuleFault::TooMany(place_at(text, bracket(text, MOST))));
     }
-    match words.iter().position(|word| !is_suited(*word, variables)) {
-        Some(j) => Err(refusal(words[j], place_at(text, bracket(text, j)))),
-        None => Ok(()),
+    if let Some(j) = words.iter().position(|word| !is_suited(*word, variables)) {
+        return Err(refusal(words[j], place_at(text, bracket(text, j))));
     }
+    Ok(())
 }

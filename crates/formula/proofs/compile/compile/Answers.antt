@@ -59,11 +59,11 @@ returns-clause-table c =
     let g = c.loop-i.invariant.good 0 (omega (arith, c.in-None.ensures.steps.1.0)) some in
     either (CompiledTo ws) _ _ _ c.then_some.ensures
     (λ e.
-        let same : size g.form ≡ length ws = omega (arith, g.ends_at, eqb-true _ _ e) in
-        (omega arith, (g.form, (g.spelt, same), record { numbered = g.numbered; all = sym same })))
+    let same : size g.form ≡ length ws = omega (arith, g.ends_at, eqb-true _ _ e) in
+    (omega arith, (g.form, (g.spelt, same), record { numbered = g.numbered; all = sym same })))
     (λ e few f s.
-        let same = same_size ws 0 f g.form s.0 g.spelt in
-        eqb-false _ _ e (omega (arith, g.ends_at, same, s.1)))
+    let same = same_size ws 0 f g.form s.0 g.spelt in
+    eqb-false _ _ e (omega (arith, g.ends_at, same, s.1)))
 
 pub returns-clause-beyond : goal.returns-clause-beyond
 returns-clause-beyond c = either BlankBeyond _ _ _ c.then_some.ensures (λ e. c.loop-i.invariant.blank ∙ drop-replicate (length c.args.words.now) 60 (Mark 0)) (λ e. tt)
