@@ -6,6 +6,7 @@ use crate::node::{MOST, Node, Table};
 use crate::word::Word;
 
 // The number of the word behind the subformula that begins at a word, if one begins there.
+// Stays an Option: that none begins there is an answer, and no refusal.
 fn end_of(ends: &[u8], at: u8) -> Option<u8>
     ensures { result ≡ slice_get ends.now at }
 {
