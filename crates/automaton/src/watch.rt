@@ -13,6 +13,7 @@ impl<'a> Monitor for Automaton<'a> {
         only(self.start)
     }
 
+    // Stays two parameters, as in the trait.
     fn step(&self, code: u64, action: Action) -> u64 {
         self.next(code, action)
     }

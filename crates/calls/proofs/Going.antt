@@ -1,11 +1,11 @@
 -- A list of calls that is performed in place, from its front on.
-use Rattle.std.proofs.Common.{◌≡◌, ℕ, ◌+◌, ◌<◌, ◌≤◌, List, [], ◌∷◌, ◌++◌, map, length, get_or, take, drop, set, sym, refl, ap, ◌∙◌, subst, arith}
+use Rattle.std.proofs.Common.{◌≡◌, ℕ, ◌+◌, ◌<◌, ◌≤◌, List, [], ◌∷◌, ◌++◌, map, length, get_or, take, drop, set, sym, ap, ◌∙◌, subst, arith}
 use Rattle.std.proofs.Math.ListN.{get_or-map}
 use Rattle.std.proofs.lemmas.List.{drop-drop, drop-set-lt, drop_more, take_more_set, take_all, map-set, map_push, map_more, set-get_or, length-drop}
 use Rattle.events.specs.declared.event.Event.{Event}
 use Rattle.events.specs.Noting.{Opening}
 use Rattle.calls.specs.Acts.{Act, Outcome, Gives, after, Performed}
-use Rattle.calls.proofs.Rising.{none_performed, pushed}
+use Rattle.calls.proofs.Rising.{pushed}
 
 -- i calls of cs were performed, and the calls are ds now; f is what a call is handed, g what it gave, and h what of it stays
 pub record Going {X H : Type 0} (f : X → Act) (g : X → Outcome) (h : X → H) (o : Opening) (before : List Event) (cs ds : List X) (i : ℕ) (p : Opening)
@@ -14,9 +14,6 @@ pub record Going {X H : Type 0} (f : X → Act) (g : X → Outcome) (h : X → H
   pub done : Performed o before (map f (take i cs)) (map g (take i ds)) es
   pub keeps : map h ds ≡ map h cs
   pub opens : p ≡ o
-
-pub going_none : {X H : Type 0} (f : X → Act) (g : X → Outcome) (h : X → H) (o : Opening) (es : List Event) (cs : List X) → Going f g h o es cs cs 0 o es
-going_none f g h o es cs = record { rest = refl; done = none_performed o es; keeps = refl; opens = refl }
 
 module _ {X H : Type 0} (f : X → Act) (g : X → Outcome) (h : X → H) (o : Opening) (before : List Event) (cs ds : List X) (i : ℕ) (p : Opening) (es : List Event)
     (w : Going f g h o before cs ds i p es) where

@@ -1,5 +1,5 @@
 -- Replays on a trace: one answer is right, and which are granted.
-use Rattle.std.proofs.Common.{◌≡◌, ℕ, true, false, List, is_some, is_ok, Some, None, Ok, Err, Decides, Option, Result, sym, refl, ◌∙◌}
+use Rattle.std.proofs.Common.{◌≡◌, ℕ, false, List, is_some, is_ok, Some, None, Ok, Err, Decides, Option, Result, sym, refl, ◌∙◌}
 use Rattle.events.specs.declared.event.Event.{Event}
 use Rattle.events.specs.declared.refusal.OpenRefusal.{OpenRefusal}
 use Rattle.events.specs.Noting.{Opening, Noted}
@@ -8,7 +8,6 @@ use Rattle.order.proofs.Noting.{sound_of, within_of}
 use Rattle.monitor.specs.declared.runs.Verdict.{Verdict}
 use Rattle.monitor.specs.Meaning.{Meaning}
 use Rattle.replay.specs.declared.refusal.ReplayRefusal.{ReplayRefusal}
-use Rattle.replay.specs.declared.refusal.ReplayRefusal.TheVariants.{Void}
 use Rattle.replay.specs.Outcome.{Outcome}
 use Rattle.replay.proofs.One.{one_outcome}
 use Rattle.calls.specs.Replays.{ReplaysAs, Replays, Granted, OneReplay}
@@ -34,14 +33,7 @@ module _ (m : Meaning) (es : List Event) (n : ℕ) (ts : List ℕ) where
 pub granted : (o : Opening) (es : List Event) (m : Meaning) (ts : List ℕ) (r : Result Verdict ReplayRefusal) → Replays o es m ts r → Granted o es ts r
 granted o es m ts r x = granted_as m es o.threads ts o.void r x
 
--- where the trace is void, and where it is not
-void_as : (void : Option OpenRefusal) (n : ℕ) (es : List Event) (m : Meaning) (ts : List ℕ) → is_some void ≡ true → ReplaysAs void n es m ts (Err Void)
-void_as (Some why) n es m ts e = refl
-void_as None n es m ts e = absurd cc
-
-pub when_void : (o : Opening) (es : List Event) (m : Meaning) (ts : List ℕ) → is_some o.void ≡ true → Replays o es m ts (Err Void)
-when_void o es m ts e = void_as o.void o.threads es m ts e
-
+-- where the trace is not void
 open_as : (void : Option OpenRefusal) (n : ℕ) (es : List Event) (m : Meaning) (ts : List ℕ) (r : Result Verdict ReplayRefusal)
     → is_some void ≡ false → Outcome m es n ts r → ReplaysAs void n es m ts r
 open_as (Some why) n es m ts r e h = absurd cc

@@ -6,8 +6,9 @@ use monitor::Verdict;
 use order::Row;
 use replay::ReplayRefusal;
 
-// A call with what it is handed, and a place for its answer, which is none until the call is
-// performed. Monitors of several kinds stand in one list as `monitor::Either`.
+// A call with what it is handed, and its answer, which is None until the call is performed. Monitors
+// of several kinds stand in one list as `monitor::Either`.
+// Stays an enum, and no closure: a list of calls is data, which a caller lends and reads back.
 #[derive(Drop)]
 pub enum Call<M> {
     Note {

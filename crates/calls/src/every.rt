@@ -13,6 +13,8 @@ use trace::Trace;
 
 // Performs the calls in their order. Each answer, and what each call's rows and lists hold, is
 // written in its place.
+// Stays a clause: that a call leaves what the trace was opened with is said of before and after, which
+// no invariant speaks of.
 pub fn perform<M: Monitor>(trace: &mut Trace, calls: &mut [Call<M>])
     ensures performed { Performed (opening_of trace.old) (noted_of trace.old) (map (asked M.Monitor.meaning) calls.old) (map given calls.new) (noted_of trace.new) }
     ensures lawful { Lawful (opening_of trace.old) (noted_of trace.old) (map (asked M.Monitor.meaning) calls.old) (map given calls.new) }

@@ -11,6 +11,8 @@ use monitor::Monitor;
 use trace::Trace;
 
 // Performs the call, and writes its answer in its place.
+// Stays a clause: that a call leaves what the trace was opened with is said of before and after, which
+// no invariant speaks of.
 pub(crate) fn perform_one<M: Monitor>(trace: &mut Trace, call: &mut Call<M>)
     ensures gives { Gives (opening_of trace.old) (noted_of trace.old) (asked M.Monitor.meaning call.old) (given call.new) }
     ensures keeps { kept call.new ≡ kept call.old }

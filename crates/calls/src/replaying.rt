@@ -21,9 +21,7 @@ pub fn replay<M: Monitor>(
     ensures granted { Granted (opening_of trace.now) (noted_of trace.now) threads.now result }
     ensures more { OneMore (opening_of trace.now) (noted_of trace.now) (to_replay (M.Monitor.meaning monitor.now) threads.now) (gave_replay result) (opening_of trace.now) (noted_of trace.now) }
 {
-    if trace.void().is_some() {
-        return Err(ReplayRefusal::Void);
-    }
+    trace.opened().map_err(|_| ReplayRefusal::Void)?;
     let tables = Tables::make(trace.events());
     replay_along(&tables, trace.threads(), threads, monitor)
 }

@@ -1,5 +1,7 @@
 // Each call by itself. Whatever list of calls led to the trace, that list with the call at its end is
-// a list of the law, so a program may mix its calls freely.
+// lawful too, so a program may mix its calls freely.
+// Stays two things in each clause, what a trace was opened with and what it has noted: the one stays
+// while the other grows, and the laws of lists say so of each.
 ghost use Rattle.std.specs.Prelude.{◌≡◌};
 ghost use Rattle.trace.specs.Meaning.{opening_of, noted_of};
 ghost use Rattle.calls.specs.Acts.{to_note, to_map, to_judge, gave_note, gave_map, gave_judge, Gives, after};
@@ -13,6 +15,8 @@ use order::Row;
 use trace::Trace;
 
 // Notes the action as its thread's next event, and gives its place; or refuses it.
+// Stays a clause: that a call leaves what the trace was opened with is said of before and after, which
+// no invariant speaks of.
 pub fn note(trace: &mut Trace, action: Action) -> Result<u8, Refusal>
     ensures gives { Gives (opening_of trace.old) (noted_of trace.old) (to_note action) (gave_note result) }
     ensures noted { noted_of trace.new ≡ after (opening_of trace.old) (noted_of trace.old) (to_note action) }

@@ -4,6 +4,8 @@ ghost use Rattle.monitor.specs.Either.{either};
 use crate::monitor::Monitor;
 use events::Action;
 
+// Stays an enum of its own, and no `dyn Monitor`: no crate of the kit but its library stands under
+// this one, and a list knows the two kinds that it holds.
 #[derive(Clone, Copy)]
 pub enum Either<L, R> {
     Left(L),
@@ -20,6 +22,7 @@ impl<L: Monitor, R: Monitor> Monitor for Either<L, R> {
         }
     }
 
+    // Stays two parameters: the code is the monitor's, the action the trace's.
     fn step(&self, code: u64, action: Action) -> u64 {
         match self {
             Either::Left(l) => l.step(code, action),

@@ -9,6 +9,7 @@ impl<'a, M: Monitor> Monitor for &'a M {
         (**self).start()
     }
 
+    // Stays two parameters, as in the trait.
     fn step(&self, code: u64, action: Action) -> u64 {
         (**self).step(code, action)
     }

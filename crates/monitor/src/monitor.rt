@@ -14,6 +14,7 @@ pub trait Monitor {
         ensures { result ≡ (meaning self.now).start };
 
     // The code after the action, where it was `code` before it.
+    // Stays two parameters: the code is the monitor's, the action the trace's.
     fn step(&self, code: u64, action: Action) -> u64
         ensures { result ≡ (meaning self.now).step code action };
 

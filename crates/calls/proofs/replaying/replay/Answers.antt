@@ -1,4 +1,4 @@
-use Rattle.std.proofs.Common.{ℕ, List, is_some, Err, sym, refl, ap, ◌∙◌, subst}
+use Rattle.std.proofs.Common.{◌≡◌, ℕ, false, List, is_some, sym, refl, subst, rules}
 use Rattle.events.specs.declared.event.Event.{Event}
 use Rattle.events.specs.Noting.{Noted}
 use Rattle.order.proofs.Noting.{within_of}
@@ -6,27 +6,26 @@ use Rattle.monitor.specs.Meaning.{Meaning}
 use Rattle.trace.specs.Meaning.{opening_of, noted_of}
 use Rattle.follow.specs.Balance.{ThreadsBelow}
 use Rattle.follow.specs.Made.{MadeOf}
-use Rattle.replay.specs.declared.refusal.ReplayRefusal.TheVariants.{Void}
 use Rattle.replay.specs.Outcome.{Outcome}
 use Rattle.calls.specs.Replays.{Replays}
 use Rattle.trace.proofs.Bounds.{opening_few}
 use Rattle.calls.proofs.Traces.{noted_in}
-use Rattle.calls.proofs.Replayed.{when_void, when_open, granted}
+use Rattle.calls.proofs.Replayed.{when_open, granted}
 use Rattle.calls.proofs.Rising.{one_more}
 use Rattle.calls.proofs.replaying.replay.Goals as goal
 
-pub returns-then-is_some-clause-more : goal.returns-then-is_some-clause-more
-returns-then-is_some-clause-more g c =
+pub returns-in_err-map_err-clause-more : goal.returns-in_err-map_err-clause-more
+returns-in_err-map_err-clause-more g c =
     let t = c.args.trace.now in
-    let void = sym (c.is_some.ensures ∙ ap is_some c.void.ensures) ∙ c.if-is_some.true in
-    one_more _ _ _ _ (Err Void, refl, when_void (opening_of t) (noted_of t) (g.M.Monitor.meaning c.args.monitor.now) c.args.threads.now void) _ _ refl refl
+    let replays : Replays (opening_of t) (noted_of t) (g.M.Monitor.meaning c.args.monitor.now) c.args.threads.now c.from_residual.result = search rules in
+    one_more _ _ _ _ (c.from_residual.result, refl, replays) _ _ refl refl
 
 pub returns : goal.returns
 returns g c =
     let t = c.args.trace.now in
     let m : Meaning = g.M.Monitor.meaning c.args.monitor.now in
     let ts : List ℕ = c.args.threads.now in
-    let valid = sym (c.is_some.ensures ∙ ap is_some c.void.ensures) ∙ c.if-is_some.false in
+    let valid : is_some (opening_of t).void ≡ false = search rules in
     let is = c.events.ensures.value in
     let made : MadeOf (noted_of t) c.make-tables.result
     = subst (λ (es : List Event). MadeOf es c.make-tables.result) is
