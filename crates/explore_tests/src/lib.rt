@@ -8,10 +8,13 @@ ghost use Rattle.std.specs.Cmp.{unsigned_Decides};
 use explore::{Entry, Machine, Traced};
 use rows::Keyed;
 
-// Two steps, each by 0 or 1: a node is the number of steps, times 16, and their sum.
+// Two steps, each by 0 or 1: a node is the number of steps, times 16, and their sum. Stays one number:
+// the walk of the theorems, whose listing is proved, has these nodes.
 #[derive(Drop)]
 pub struct Walk;
 
+// A row of the tests. Stays beside the judge's row, which is written as it is: that one has the names
+// that its users read.
 #[derive(Clone, Copy)]
 pub struct Step {
     pub node: u8,
@@ -38,6 +41,7 @@ impl Machine<u8> for Walk {
     }
 
     fn next(&self, node: u8, label: u8) -> Option<u8> {
+        // Stays an `if`: `then_some` would add ahead of the test, and `then` takes a closure.
         if node < 32 && label < 2 {
             Some(node + 16 + label)
         } else {

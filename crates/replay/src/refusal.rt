@@ -4,7 +4,8 @@ ghost use Rattle.replay.specs.Refusals.{replay_number, replay_position, refusal_
 
 use follow::NoNext;
 
-// Each but the first two holds the position, from 1, of the thread number that is refused.
+// Each but the first two holds the position, from 1, of the thread number that is refused. Stays a
+// case for each reason, and none that holds a `NoNext`: users match each reason by its own case.
 #[derive(Clone, Copy, Debug, PartialEq, Eq)]
 pub enum ReplayRefusal {
     // the trace is void
@@ -23,6 +24,7 @@ pub enum ReplayRefusal {
 
 impl ReplayRefusal {
     // Why the thread number at this position is refused, where no event of its thread comes next.
+    // Stays a function, and no `From`: it takes the position too.
     pub fn of(why: NoNext, position: usize) -> ReplayRefusal
         ensures { result ≡ refusal_at position why }
     {
@@ -47,7 +49,8 @@ impl ReplayRefusal {
         }
     }
 
-    // The position, or 0 where the whole list is refused.
+    // The position, or 0 where the whole list is refused. Stays a number, and no Option: users know
+    // positions from 1, and 0 as the whole list's.
     pub fn position(self) -> usize
         ensures { result ≡ replay_position self }
     {

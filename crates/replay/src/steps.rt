@@ -27,6 +27,8 @@ pub fn replay<M: Monitor>(
         if thread >= count {
             return Err(ReplayRefusal::Thread(k + 1));
         }
+        // Stays beside the judge's step, which is the same: no crate that both rest on knows tables and
+        // codes.
         let event = tables
             .next(cut, thread)
             .map_err(|why| ReplayRefusal::of(why, k + 1))?;
