@@ -1,6 +1,5 @@
 // The verdict on listed pairs.
-ghost use Rattle.std.specs.Prelude.{◌≡◌, true};
-ghost use Rattle.rows.specs.First.{StandsFirst};
+ghost use Rattle.std.specs.Prelude.{◌≡◌};
 ghost use Rattle.pairs.specs.Pairs.{size_of};
 ghost use Rattle.judge.specs.Decided.{ends, DecidedBy};
 
@@ -23,13 +22,6 @@ fn ends_badly<M: Monitor>(row: &SearchRow, monitor: &M, events: usize) -> bool
     monitor.bad(row.pair.code) && size(row.pair.cut) == events
 }
 
-// The first row that ends badly.
-fn first_bad<M: Monitor>(rows: &[SearchRow], monitor: &M, events: usize) -> Option<usize>
-    ensures { StandsFirst (ends (M.Monitor.meaning monitor.now) events) true rows.now result }
-{
-    rows.iter().position(|row| ends_badly(row, monitor, events))
-}
-
 // The verdict on the rows. Where a row ends badly, the path to the first such row is written into
 // the front of the thread list.
 pub(crate) fn decide<M: Monitor>(
@@ -40,7 +32,7 @@ pub(crate) fn decide<M: Monitor>(
 ) -> Verdict
     ensures { DecidedBy (ends (M.Monitor.meaning monitor.now) events) rows.now threads.old result threads.new }
 {
-    match first_bad(rows, monitor, events) {
+    match rows.iter().position(|row| ends_badly(row, monitor, events)) {
         Some(row) => {
             // No answer is needed: the path is as long as the list of events, and there is room for it.
             let _ = path_back(rows, row, threads);

@@ -29,6 +29,7 @@ impl<'a, M: Monitor> Machine<Pair> for PairMachine<'a, M> {
         }
     }
 
+    // Stays beside replay's step: no crate that both rest on knows tables and pairs.
     fn next(&self, node: Pair, label: u8) -> Option<Pair> {
         let event = self.tables.next(node.cut, label).ok()?;
         let mut cut = node.cut;

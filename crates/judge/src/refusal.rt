@@ -1,7 +1,8 @@
-// Why a trace is not judged, and the numbers by which users know the reasons.
+// The reasons for which judgements are refused.
 ghost use Rattle.std.specs.Prelude.{◌≡◌};
 ghost use Rattle.judge.specs.Numbers.{judge_number};
 
+// Why a trace is not judged.
 #[derive(Clone, Copy, Debug, PartialEq, Eq)]
 pub enum JudgeRefusal {
     // the trace is void
@@ -15,6 +16,8 @@ pub enum JudgeRefusal {
 }
 
 impl JudgeRefusal {
+    // The number by which users know the reason. Stays a method, as at every fault: users call it by
+    // this name, and a trait for it would be one word more for them.
     pub fn number(self) -> u8
         ensures { result ≡ judge_number self }
     {

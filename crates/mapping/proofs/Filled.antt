@@ -99,7 +99,7 @@ module _ (es : List Event) (fit : Mappable es) (k : ℕ) (h : k < length es) (s 
         record { place = omega (arith, g); among = omega (arith, p, r); within = omega (arith, p, r, z, room) }
 
     pub filled_next : (s' : Latest) (m' : List Row) (w : Row) (p : ℕ) → Written es k w
-        → s'.clocks ≡ set s.clocks w.event.thread w.clock → s'.writes ≡ with_write s.writes w → s'.acquires ≡ with_acquire s.acquires w
+        → s'.clocks ≡ set s.clocks (thread_at es k) w.clock → s'.writes ≡ with_write s.writes (get_or es k blank) w → s'.acquires ≡ with_acquire s.acquires (get_or es k blank) w
         → p ≡ get_or bases (thread_at es k) 0 + place_at es k - 1
         → m' ≡ set m p w
         → Filled es (k + 1) s' m' before
@@ -111,16 +111,15 @@ module _ (es : List Event) (fit : Mappable es) (k : ℕ) (h : k < length es) (s 
         let sz = a.size in
         let inside : p < length m = omega (arith, z, r, sz, room) in
         let b = fit.bounded k h in
-        let ec' : s'.clocks ≡ set s.clocks t w.clock = ec ∙ ap (λ i. set s.clocks i w.clock) (same_threads here.event) in
         let thread_own : (u : ℕ) → t ≡ u → get_or s'.clocks u [] ≡ w.clock
-        = λ u y. ap (λ (cs : List (List ℕ)). get_or cs u []) ec'
+        = λ u y. ap (λ (cs : List (List ℕ)). get_or cs u []) ec
         ∙ subst (λ i. get_or (set s.clocks t w.clock) i [] ≡ w.clock) y (get_or-set_same s.clocks t w.clock [] (omega (arith, a.clocks, few))) in
         let thread_other : (u : ℕ) → (t ≡ u → ⊥) → get_or s'.clocks u [] ≡ get_or s.clocks u []
-        = λ u y. ap (λ (cs : List (List ℕ)). get_or cs u []) ec' ∙ get_or-set_other s.clocks t u w.clock [] (λ i. y (sym i)) in
+        = λ u y. ap (λ (cs : List (List ℕ)). get_or cs u []) ec ∙ get_or-set_other s.clocks t u w.clock [] (λ i. y (sym i)) in
         subst (λ i. Filled es i s' m' before) (sym (add-one k))
         (subst (λ x. Filled es (suc k) s' x before) (sym em)
         (record {
-          clocks = ap length ec' ∙ length-set s.clocks t w.clock ∙ a.clocks;
+          clocks = ap length ec ∙ length-set s.clocks t w.clock ∙ a.clocks;
           threads = λ u j l v.
               elim (next_threads es fit.sound k h (scan es k) (knows es fit.sound k (omega arith)) u) [
                 | inl y ↦

@@ -65,6 +65,7 @@ mappable o es n a b =
         thread = omega (arith, w.threads i h);
         variable = omega (arith, w.subjects_below i h, subjects_few o (kind_at es i) b);
         lock = λ l. omega (arith, w.subjects_below i h, subjects_lock o (kind_at es i) l);
+        first = omega (arith, (sound_of o es n).places i h);
         place = w.places i h;
       };
     }

@@ -56,11 +56,9 @@ module _ (es : List Event) (kind n : ℕ) where
     latest_kept s None n w = λ q b h. elim (cases_lt q k) [ inl l ↦ w q l h | inr l ↦ let z : q ≡ k = omega arith in n (subst (Is es kind s) z h) ]
 
     pub table_next : (table : List (Option Row)) (r : Row) → k < length es → Written es k r → (kind_at es k ≡ kind → subject_at es k < n)
-        → Table es kind n k table → Table es kind n (suc k) (with_latest kind table r)
+        → Table es kind n k table → Table es kind n (suc k) (with_latest kind table (get_or es k blank) r)
     table_next table r h here below t =
         let x : ℕ = subject_at es k in
-        let with_event : Event → List (Option Row) = λ e. cond (eqb e.kind kind) (set table e.subject (Some r)) table in
-        subst (Table es kind n (suc k)) (ap with_event (sym here.event))
         (elim (cases_eq (kind_at es k) kind) [
           | inl q ↦
               subst (Table es kind n (suc k)) (sym (cond-true (eqb (kind_at es k) kind) (set table x (Some r)) table (eq-eqb (kind_at es k) kind q)))

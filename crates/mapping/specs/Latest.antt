@@ -24,12 +24,12 @@ abbrev pub met : Option Row → ℕ → ℕ → ℕ
 met (Some w) j n = max n (slice_index w.clock j)
 met None j n = n
 
--- the table with the row at its event's subject, where the event is of this kind
-abbrev pub with_latest : ℕ → List (Option Row) → Row → List (Option Row)
-with_latest k table w = cond (w.event.kind == k) (slice_set table w.event.subject (Some w)) table
+-- the table with the row at the event's subject, where the event is of this kind
+abbrev pub with_latest : ℕ → List (Option Row) → Event → Row → List (Option Row)
+with_latest k table e w = cond (e.kind == k) (slice_set table e.subject (Some w)) table
 
-abbrev pub with_write : List (Option Row) → Row → List (Option Row)
+abbrev pub with_write : List (Option Row) → Event → Row → List (Option Row)
 with_write = with_latest 2
 
-abbrev pub with_acquire : List (Option Row) → Row → List (Option Row)
+abbrev pub with_acquire : List (Option Row) → Event → Row → List (Option Row)
 with_acquire = with_latest 3

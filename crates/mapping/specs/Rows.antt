@@ -10,6 +10,7 @@ pub record Bounded (e : Event) : Type 0 where
   pub thread : e.thread < 8
   pub variable : e.subject < 32
   pub lock : 2 < e.kind → e.subject < 16
+  pub first : 0 < e.place
   pub place : e.place ≤ 255
 
 -- a sound list within the limits of a trace

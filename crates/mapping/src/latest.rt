@@ -1,18 +1,16 @@
 // What the row of the next event is made from.
 ghost use Rattle.std.specs.Prelude.{◌≡◌, ℕ, ◌<◌, None, replicate, slice_index, slice_index_or, slice_set};
 ghost use Rattle.order.specs.Clocks.{tick};
-ghost use Rattle.mapping.specs.Rows.{Bounded};
 ghost use Rattle.mapping.specs.Latest.{feeder, source_of, met, thread_clock, with_write, with_acquire};
 
 use crate::clocks::{joined, ticked};
-use events::{Event, Kind};
+use crate::placed::Placed;
+use events::Kind;
 use order::Row;
 
-// What is asked of an event here is the one fact `Bounded`. The type of events cannot keep it, since
-// their fields are open.
-
 // Each thread's clock, and the rows of the latest write of each variable and of the latest acquire of
-// each lock.
+// each lock. Stays two tables, by variable and by lock, as the rule of what feeds an event speaks of
+// them; follow's objects number both together, since its groups are made alike of both.
 #[derive(Drop)]
 pub(crate) struct Latest {
     pub(crate) clocks: [[u8; 8]; 8],
@@ -36,10 +34,10 @@ impl Latest {
 
     // The row of what feeds the event: the latest write of its variable a read, the latest acquire of
     // its lock a release.
-    fn feeder(&self, event: Event) -> Option<Row>
-        requires { Bounded event }
-        ensures { result ≡ feeder self.now event }
+    fn feeder(&self, placed: Placed) -> Option<Row>
+        ensures { result ≡ feeder self.now placed.event }
     {
+        let event = placed.event;
         match Kind::try_from(event.kind) {
             Ok(Kind::Read) => self.writes[event.subject as usize],
             Ok(Kind::Release) => self.acquires[event.subject as usize],
@@ -49,15 +47,15 @@ impl Latest {
 
     // The row of the event. Its clock is its thread's with one more, joined with the clock of what feeds
     // it.
-    pub(crate) fn row(&self, event: Event) -> Row
-        requires bounded { Bounded event }
-        requires room { slice_index (thread_clock self.now event) event.thread < 255 }
-        ensures event { result.event ≡ event }
-        ensures source { result.source ≡ source_of (feeder self.now event) }
-        ensures clock { (j : ℕ) → j < 8 → slice_index result.clock j ≡ met (feeder self.now event) j (tick event.thread (λ u. slice_index (thread_clock self.now event) u) j) }
+    pub(crate) fn row(&self, placed: Placed) -> Row
+        requires { slice_index (thread_clock self.now placed.event) placed.event.thread < 255 }
+        ensures event { result.event ≡ placed.event }
+        ensures source { result.source ≡ source_of (feeder self.now placed.event) }
+        ensures clock { (j : ℕ) → j < 8 → slice_index result.clock j ≡ met (feeder self.now placed.event) j (tick placed.event.thread (λ u. slice_index (thread_clock self.now placed.event) u) j) }
     {
+        let event = placed.event;
         let own = ticked(self.clocks[event.thread as usize], event.thread);
-        match self.feeder(event) {
+        match self.feeder(placed) {
             Some(fed_by) => Row {
                 event,
                 source: (fed_by.event.thread, fed_by.event.place),
@@ -71,14 +69,14 @@ impl Latest {
         }
     }
 
-    // Takes in the row of an event.
-    pub(crate) fn note(&mut self, row: Row)
-        requires { Bounded row.event }
-        ensures clocks { self.new.clocks ≡ slice_set self.old.clocks row.event.thread row.clock }
-        ensures writes { self.new.writes ≡ with_write self.old.writes row }
-        ensures acquires { self.new.acquires ≡ with_acquire self.old.acquires row }
+    // Takes in the event's row.
+    pub(crate) fn note(&mut self, placed: Placed, row: Row)
+        ensures clocks { self.new.clocks ≡ slice_set self.old.clocks placed.event.thread row.clock }
+        ensures writes { self.new.writes ≡ with_write self.old.writes placed.event row }
+        ensures acquires { self.new.acquires ≡ with_acquire self.old.acquires placed.event row }
     {
-        let Row { event, clock, .. } = row;
+        let event = placed.event;
+        let clock = row.clock;
         self.clocks[event.thread as usize] = clock;
         match Kind::try_from(event.kind) {
             Ok(Kind::Write) => self.writes[event.subject as usize] = Some(row),

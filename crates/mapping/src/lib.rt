@@ -3,6 +3,7 @@
 
 mod clocks;
 mod latest;
+mod placed;
 mod places;
 pub mod refusal;
 pub mod writing;

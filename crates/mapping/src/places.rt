@@ -2,6 +2,7 @@
 ghost use Rattle.std.specs.Prelude.{◌≡◌, ℕ, ◌+◌, ◌-◌, ◌^◌, ◌<◌, length, slice_index};
 ghost use Rattle.mapping.specs.Rows.{base};
 
+use crate::placed::Placed;
 use events::Event;
 use std::array;
 
@@ -23,7 +24,7 @@ pub(crate) struct Bases {
 }
 
 impl Bases {
-    pub(crate) fn of(events: &[Event]) -> Bases
+    pub(crate) fn new(events: &[Event]) -> Bases
         ensures { (t : ℕ) → t < 8 → slice_index result.starts t ≡ base events.now t }
     {
         Bases {
@@ -32,12 +33,11 @@ impl Bases {
     }
 
     // Where the event's row stands.
-    pub(crate) fn position(&self, event: Event) -> usize
-        requires thread { event.thread < 8 }
-        requires place { 0 < event.place }
-        requires fits { slice_index self.now.starts event.thread + event.place < 2 ^ 64 }
-        ensures { result ≡ slice_index self.now.starts event.thread + event.place - 1 }
+    pub(crate) fn position(&self, placed: Placed) -> usize
+        requires { slice_index self.now.starts placed.event.thread + placed.event.place < 2 ^ 64 }
+        ensures { result ≡ slice_index self.now.starts placed.event.thread + placed.event.place - 1 }
     {
+        let event = placed.event;
         self.starts[event.thread as usize] + event.place as usize - 1
     }
 }

@@ -1,4 +1,4 @@
-// Why no map is written, and the numbers by which users know the reasons.
+// The reasons for which maps are refused.
 ghost use Rattle.std.specs.Prelude.{◌≡◌};
 ghost use Rattle.mapping.specs.Numbers.{map_number};
 
@@ -12,6 +12,8 @@ pub enum MapRefusal {
 }
 
 impl MapRefusal {
+    // The number by which users know the reason. Stays a method, as at every fault: users call it by
+    // this name, and a trait for it would be one word more for them.
     pub fn number(self) -> u8
         ensures { result ≡ map_number self }
     {

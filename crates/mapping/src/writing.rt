@@ -7,6 +7,7 @@ ghost use Rattle.mapping.specs.Rows.{Mappable};
 ghost use Rattle.mapping.specs.Mapped.{map_tests, Mapped, EqualMapped, OneMapped};
 
 use crate::latest::Latest;
+use crate::placed::Placed;
 use crate::places::Bases;
 use crate::refusal::MapRefusal;
 use events::Event;
@@ -20,12 +21,13 @@ fn fill(events: &[Event], rows: &mut [Row])
     ensures map { MapOf events.now (take (length events.now) rows.new) }
     ensures beyond { drop (length events.now) rows.new ≡ drop (length events.now) rows.old }
 {
-    let bases = Bases::of(events);
+    let bases = Bases::new(events);
     let mut latest = Latest::none();
     for event in events {
-        let row = latest.row(*event);
-        latest.note(row);
-        let at = bases.position(*event);
+        let placed = Placed { event: *event };
+        let row = latest.row(placed);
+        latest.note(placed, row);
+        let at = bases.position(placed);
         rows[at] = row;
     }
 }

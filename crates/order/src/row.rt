@@ -12,11 +12,12 @@ pub struct Row {
 }
 
 impl Row {
-    // What stands for the source of an event that nothing feeds. It stays a pair of numbers: users
-    // read a map's rows in this form.
+    // What stands for the source of an event that nothing feeds. Stays a pair of numbers: users read a
+    // map's rows in this form.
     pub const NO_SOURCE: (u8, u8) = (255, 0);
 
-    // A row that stands for no event, with which tables are made.
+    // A row that stands for no event, with which tables are made. Its source has place 0, which no
+    // event has.
     pub const BLANK: Row = Row {
         event: Event::BLANK,
         source: (0, 0),
