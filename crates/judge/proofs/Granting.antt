@@ -1,9 +1,9 @@
 -- What an exploration leaves is judged.
-use Rattle.std.proofs.Common.{◌≡◌, ℕ, ◌≤◌, Bool, true, false, ltb, List, [], ◌∷◌, length, take, drop, None, Ok, Err, Option, Result, is_ok, sym, refl, subst, arith}
+use Rattle.std.proofs.Common.{◌≡◌, ℕ, ◌≤◌, Bool, true, false, ltb, List, [], ◌∷◌, length, take, drop, Some, None, Ok, Err, Option, Result, is_ok, sym, refl, subst, arith}
 use Rattle.std.proofs.lemmas.List.{length-take-le, take_all}
 use Rattle.std.proofs.lemmas.Bool.{ltb-false}
 use Rattle.events.specs.declared.event.Event.{Event}
-use Rattle.events.specs.First.{first_fit}
+use Rattle.events.specs.First.{first_fit, told}
 use Rattle.events.specs.Noting.{Opening, is_void, Noted}
 use Rattle.trace.specs.declared.Trace.{Trace}
 use Rattle.trace.specs.Meaning.{opening_of, noted_of}
@@ -29,6 +29,11 @@ use Rattle.judge.specs.Decided.{ends, DecidedBy}
 use Rattle.judge.specs.Judging.{judge_tests, JudgedFor, Judged}
 use Rattle.judge.proofs.Agreeing.{holds_pairs}
 use Rattle.judge.proofs.Deciding.{answered}
+
+-- a check that refuses nothing was given no reason
+pub no_reason : (why : Option JudgeRefusal) (x : Unit {0}) → Ok x ≡ told why → why ≡ None
+no_reason (Some why) x h = cc
+no_reason None x h = refl
 
 not_last : (a b c : Bool) → first_fit ((a, refusal.Void) ∷ (b, refusal.Rows) ∷ (c, refusal.Threads) ∷ []) ≡ None → c ≡ false
 not_last true b c h = cc

@@ -1,6 +1,6 @@
 // The call that judges.
-ghost use Rattle.std.specs.Prelude.{◌≡◌, None, Some, IfOk, IfErr};
-ghost use Rattle.events.specs.First.{first_fit};
+ghost use Rattle.std.specs.Prelude.{◌≡◌};
+ghost use Rattle.events.specs.First.{first_fit, told};
 ghost use Rattle.trace.specs.Meaning.{opening_of, noted_of};
 ghost use Rattle.judge.specs.Judging.{judge_tests, Judged};
 ghost use Rattle.judge.specs.Said.{SaysNone, SaysFound};
@@ -16,17 +16,14 @@ use monitor::Monitor;
 use trace::Trace;
 
 // Whether a trace is judged with so many rows and a thread list of this length, or why not.
-fn granted(trace: &Trace, rows: usize, threads: usize) -> Result<(), JudgeRefusal>
-    ensures none { IfOk result (λ _. first_fit (judge_tests (opening_of trace.now) (noted_of trace.now) rows threads) ≡ None) }
-    ensures why { IfErr result (λ why. first_fit (judge_tests (opening_of trace.now) (noted_of trace.now) rows threads) ≡ Some why) }
+fn granted(trace: &Trace, rows: usize, list: usize) -> Result<(), JudgeRefusal>
+    ensures { result ≡ told (first_fit (judge_tests (opening_of trace.now) (noted_of trace.now) rows list)) }
 {
-    if trace.void().is_some() {
-        return Err(JudgeRefusal::Void);
-    }
+    trace.opened().map_err(|_| JudgeRefusal::Void)?;
     if rows > 65536 {
         return Err(JudgeRefusal::Rows);
     }
-    if threads < trace.events().len() {
+    if list < trace.events().len() {
         return Err(JudgeRefusal::Threads);
     }
     Ok(())

@@ -9,7 +9,7 @@ use rows::Keyed;
 // A pair of a cut and a code, the row that it was first found from, and the thread whose event led
 // from there. Row 0, which nothing led to, has 0 and 255. Stays a struct of plain numbers, and no
 // generic row of explore's: users read search rows in this form, by these names.
-#[derive(Clone, Copy, Debug)]
+#[derive(Clone, Copy, Debug, PartialEq, Eq)]
 pub struct SearchRow {
     pub pair: Pair,
     pub from: usize,

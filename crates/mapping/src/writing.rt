@@ -1,6 +1,6 @@
 // The map of a trace is written into rows that the caller lends.
-ghost use Rattle.std.specs.Prelude.{◌≡◌, ◌<◌, ◌≤◌, length, take, drop, None, Some, IfOk, IfErr};
-ghost use Rattle.events.specs.First.{first_fit};
+ghost use Rattle.std.specs.Prelude.{◌≡◌, ◌<◌, ◌≤◌, length, take, drop};
+ghost use Rattle.events.specs.First.{first_fit, told};
 ghost use Rattle.order.specs.Maps.{MapOf};
 ghost use Rattle.trace.specs.Meaning.{opening_of, noted_of};
 ghost use Rattle.mapping.specs.Rows.{Mappable};
@@ -34,12 +34,9 @@ fn fill(events: &[Event], rows: &mut [Row])
 
 // Whether a map is written, or why not.
 fn granted(trace: &Trace, room: usize) -> Result<(), MapRefusal>
-    ensures none { IfOk result (λ _. first_fit (map_tests (opening_of trace.now) (noted_of trace.now) room) ≡ None) }
-    ensures why { IfErr result (λ why. first_fit (map_tests (opening_of trace.now) (noted_of trace.now) room) ≡ Some why) }
+    ensures { result ≡ told (first_fit (map_tests (opening_of trace.now) (noted_of trace.now) room)) }
 {
-    if trace.void().is_some() {
-        return Err(MapRefusal::Void);
-    }
+    trace.opened().map_err(|_| MapRefusal::Void)?;
     if room < trace.events().len() {
         return Err(MapRefusal::Rows);
     }

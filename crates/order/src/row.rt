@@ -4,7 +4,7 @@ use events::Event;
 // What the map says of one event: the event; the thread and the place of the event that feeds it,
 // or `NO_SOURCE` where nothing does; and for each thread how many of its events are this one or
 // before it.
-#[derive(Clone, Copy, Debug)]
+#[derive(Clone, Copy, Debug, PartialEq, Eq)]
 pub struct Row {
     pub event: Event,
     pub source: (u8, u8),

@@ -1,5 +1,5 @@
 -- The pairs are in levels, a test tells pairs apart, and counts tell which cuts are full.
-use Rattle.std.proofs.Common.{◌≡◌, ℕ, zero, suc, ◌+◌, ◌<◌, ◌≤◌, Bool, true, false, ◌&&◌, eqb, leb, List, [], ◌∷◌, length, get_or, Decides, sym, refl, ap, ◌∙◌, subst, ap₂, inl, inr, arith}
+use Rattle.std.proofs.Common.{◌≡◌, ℕ, zero, suc, ◌+◌, ◌<◌, ◌≤◌, Bool, true, ◌&&◌, eqb, leb, List, [], ◌∷◌, length, get_or, Decides, sym, refl, ap, ◌∙◌, subst, ap₂, inl, inr, arith}
 use Rattle.std.proofs.lemmas.Bool.{cases_lt, cases_eq, eqb-true, eq-eqb, and_parts, and_from}
 use Rattle.std.proofs.lemmas.Bool.Decides.{Decides-eqb, Decides-and}
 use Rattle.std.proofs.lemmas.List.{length-set, ext_get_or, take_all}
@@ -79,12 +79,6 @@ total_none (suc k) = omega (arith, total_none k)
 total_count : (es : List Event) → ((i : ℕ) → i < length es → thread_at es i < 8) → (k : ℕ) → k ≤ length es → total (λ t. count es t k) 8 ≡ k
 total_count es few zero l = total_none 8
 total_count es few (suc k) l = (total_more (thread_at es k) (λ t. count es t k) 8).0 (few k l) ∙ ap suc (total_count es few k (omega arith))
-
-one_test : {P : Type 0} (x y : Bool) → Decides x P → Decides y P → x ≡ y
-one_test true true d e = refl
-one_test true false d e = sym (e.1 (d.0 refl))
-one_test false true d e = d.1 (e.0 refl)
-one_test false false d e = refl
 
 module _ {N : Type 0} (S : System N) (top : ℕ) (v : Levelled S top) where
   -- a path from a good node leads to a good node, one level up by each label

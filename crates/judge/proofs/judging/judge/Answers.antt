@@ -5,7 +5,7 @@ use Rattle.judge.specs.declared.refusal.JudgeRefusal.TheVariants.{Pairs}
 use Rattle.judge.specs.declared.verdict.Judgement.{Judgement}
 use Rattle.judge.specs.Decided.{ends, DecidedBy}
 use Rattle.judge.specs.Judging.{Judged}
-use Rattle.judge.proofs.Granting.{recorded_of, made_of, too_many, judged_as}
+use Rattle.judge.proofs.Granting.{no_reason, recorded_of, made_of, too_many, judged_as}
 use Rattle.judge.proofs.Saying.{judged_says}
 use Rattle.judge.proofs.judging.judge.Goals as goal
 
@@ -20,7 +20,7 @@ returns-in_err-pairs-clause-judged g c =
     let why : c.from_residual-in_err-pairs.result ≡ Err Pairs = search rules in
     subst (λ (r : Result Judgement JudgeRefusal). Judged (opening_of t) (noted_of t) m c.args.rows.now c.args.threads.now r c.explore.new.rows c.args.threads.now) (sym why)
     (too_many (opening_of t) (noted_of t) m (recorded_of t noted) c.make-tables.result made c.threads.result c.threads.ensures
-    c.args.rows.now c.explore.new.rows c.args.threads.now c.in_ok-granted.ensures.none c.explore.result (found.within, found.holds, found.beyond) c.explore.auto.rows (record {}) full)
+    c.args.rows.now c.explore.new.rows c.args.threads.now (no_reason _ _ c.in_ok-granted.ensures) c.explore.result (found.within, found.holds, found.beyond) c.explore.auto.rows (record {}) full)
 
 pub returns : goal.returns
 returns g c =
@@ -36,7 +36,7 @@ returns g c =
     let decided = subst (λ (k : ℕ). DecidedBy (ends m k) (take pairs c.explore.new.rows) list c.decide-verdict.result list') (ap length c.events-events.ensures.value) c.decide-verdict.ensures in
     let judged =
     judged_as (opening_of t) (noted_of t) m (recorded_of t noted) c.make-tables.result made c.threads.result c.threads.ensures
-    c.args.rows.now c.explore.new.rows list c.in_ok-granted.ensures.none c.explore.result (found.within, found.holds, found.beyond) c.explore.auto.rows pairs all
+    c.args.rows.now c.explore.new.rows list (no_reason _ _ c.in_ok-granted.ensures) c.explore.result (found.within, found.holds, found.beyond) c.explore.auto.rows pairs all
     c.decide-verdict.result list' decided in
     let says =
     judged_says (opening_of t) (noted_of t) m (recorded_of t noted) c.args.rows.now list (Ok (record { verdict = c.decide-verdict.result; pairs = pairs })) c.explore.new.rows list' judged in
