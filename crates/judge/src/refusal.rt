@@ -16,8 +16,8 @@ pub enum JudgeRefusal {
 }
 
 impl JudgeRefusal {
-    // The number by which users know the reason. Stays a method, as at every fault: users call it by
-    // this name, and a trait for it would be one word more for them.
+    // The number by which users know the reason. Stays a method, as at every fault: each is asked for
+    // its number in one way.
     pub fn number(self) -> u8
         ensures { result ≡ judge_number self }
     {
