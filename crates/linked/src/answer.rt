@@ -6,7 +6,7 @@ use judge::Verdict;
 use predictor::{Fault, Prediction, Stop};
 
 // How a call ends, by its number in C.
-#[derive(Clone, Copy)]
+#[derive(Clone, Copy, Debug, PartialEq, Eq)]
 pub enum Outcome {
     // no order of the events breaks the rule
     None = 0,
@@ -19,9 +19,10 @@ pub enum Outcome {
 }
 
 // The outcome; the pairs and events of a verdict; and the number, line and column of a fault. What
-// an outcome does not have is 0. A C program reads the outcome as a number.
+// an outcome does not have is 0.
+// Stays a number: a C program reads the outcome.
 #[repr(C)]
-#[derive(Clone, Copy)]
+#[derive(Clone, Copy, Debug, PartialEq, Eq)]
 pub struct Answer {
     pub outcome: u8,
     pub number: u8,
@@ -32,13 +33,19 @@ pub struct Answer {
 }
 
 impl Answer {
-    pub const MEMORY: Answer = Answer {
-        outcome: Outcome::Memory as u8,
+    // What an answer has where its outcome does not say more.
+    const NOTHING: Answer = Answer {
+        outcome: Outcome::None as u8,
         number: 0,
         line: 0,
         column: 0,
         pairs: 0,
         events: 0,
+    };
+
+    pub const MEMORY: Answer = Answer {
+        outcome: Outcome::Memory as u8,
+        ..Answer::NOTHING
     };
 }
 
@@ -59,11 +66,9 @@ impl From<Prediction> for Answer {
     fn from(prediction: Prediction) -> Answer {
         Answer {
             outcome: Outcome::from(prediction.verdict) as u8,
-            number: 0,
-            line: 0,
-            column: 0,
             pairs: prediction.pairs,
             events: prediction.events,
+            ..Answer::NOTHING
         }
     }
 }
@@ -78,8 +83,7 @@ impl From<Fault> for Answer {
             number: fault.number(),
             line: place.line,
             column: place.column,
-            pairs: 0,
-            events: 0,
+            ..Answer::NOTHING
         }
     }
 }

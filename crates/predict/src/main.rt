@@ -40,6 +40,7 @@ struct Report<'a> {
 
 // The verdict, the number of pairs and, where an order of the events breaks the rule, the threads
 // of the first such order.
+// Stays here: what trials prints of a verdict has other words, and only the loop over threads is shared.
 impl<'a> fmt::Display for Report<'a> {
     fn fmt<W: fmt::Write>(&self, f: &mut fmt::Formatter<W>) -> fmt::Result {
         let Prediction {
@@ -61,12 +62,12 @@ impl<'a> fmt::Display for Report<'a> {
 }
 
 // Reads the recording, and prints what is said of it.
-fn answer(rt: &HostRuntime) -> Result<(), Ended> {
+fn answer(rt: &(impl Input + Print + AllocGlobal)) -> Result<(), Ended> {
     let mut rows = [Event::BLANK; 1024];
     let mut pairs = [SearchRow::BLANK; 2048];
     let mut threads = [0u8; 1024];
     let mut text = Vec::new(rt.alloc());
-    rt.stdin().take(MOST_READ).read_to_end(&mut text)?;
+    rt.reader().take(MOST_READ).read_to_end(&mut text)?;
     let prediction = predictor::predict(rt.alloc(), &text, &mut rows, &mut pairs, &mut threads)?;
     let report = Report {
         prediction,
@@ -76,9 +77,9 @@ fn answer(rt: &HostRuntime) -> Result<(), Ended> {
     Ok(())
 }
 
-// Says why there is no verdict: the recording's fault, or want of memory. Nothing is said of a failed
+// Says why there is no verdict: the recording's fault, or no memory. Nothing is said of a failed
 // read or write.
-fn explain(rt: &HostRuntime, ended: Ended) -> io::Result<()> {
+fn explain(rt: &(impl Print + Eprint), ended: Ended) -> io::Result<()> {
     match ended {
         Ended::Stopped(Stop::Faulty(fault)) => println!(rt; "{fault}"),
         Ended::Stopped(Stop::Memory) => eprintln!(rt; "out of memory"),

@@ -13,13 +13,15 @@ use std::fmt;
 use text::{Place, ReadFault, TextFault};
 
 // Why a recording is not noted whole.
-#[derive(Clone, Copy)]
+#[derive(Clone, Copy, Debug, PartialEq, Eq)]
 pub enum RecordFault {
     Opening(OpenRefusal),
     Noting(Refusal),
 }
 
 impl RecordFault {
+    // The cause's own number.
+    // Stays a method, as at every fault: users call it, and a trait would be one more word for them.
     pub fn number(self) -> u8
         ensures { result ≡ record_number self }
     {
@@ -32,7 +34,7 @@ impl RecordFault {
 
 // The layer that a fault comes from, with the cause and, where the layer knows no places, the
 // place.
-#[derive(Clone, Copy)]
+#[derive(Clone, Copy, Debug, PartialEq, Eq)]
 pub enum Fault {
     Text(TextFault),
     Record(RecordFault, Place),
@@ -66,6 +68,8 @@ impl Fault {
         }
     }
 
+    // The cause's own number.
+    // Stays a method, as at every fault: users call it, and a trait would be one more word for them.
     pub fn number(&self) -> u8
         ensures { result ≡ fault_number self.now }
     {
@@ -84,7 +88,7 @@ impl Fault {
             Fault::Text(cause) => cause.place(),
             Fault::Record(_, place) => place,
             Fault::Rule(cause, start) => within_line(start, cause.place()),
-            // What is printed of a fault has a line and a column, 0 where there is no place.
+            // Stays a place: what is printed of a fault has a line and a column, 0 where there is none.
             Fault::Search(_) => Place { line: 0, column: 0 },
         }
     }
@@ -118,8 +122,11 @@ impl fmt::Display for Fault {
     }
 }
 
-// Why there is no answer: the recording's fault, or want of memory.
-#[derive(Clone, Copy)]
+// Why there is no answer: the recording's fault, or no memory.
+// Stays an enum of its own, and no Option: no memory is a reason too, and has its word.
+// Stays beside text's ReadFault: of one type for both, generic in the fault, the conversions from a
+// fault and from AllocError would overlap.
+#[derive(Clone, Copy, Debug, PartialEq, Eq)]
 pub enum Stop {
     Faulty(Fault),
     Memory,

@@ -5,19 +5,20 @@ ghost use Rattle.predictor.specs.Ruled.{Ruled};
 use crate::fault::Fault;
 use formula::Formula;
 use judge::{Judgement, SearchRow};
-use text::Place;
+use text::Recording;
 use trace::Trace;
 
 // Makes the rule, and judges the trace by it. The rule's fault counts from where the rule begins.
 pub(crate) fn judge_rule(
     trace: &Trace,
-    rule: &[u8],
-    start: Place,
+    recording: &Recording,
     pairs: &mut [SearchRow],
     threads: &mut [u8],
 ) -> Result<Judgement, Fault>
-    ensures { Ruled (opening_of trace.now) (noted_of trace.now) rule.now start pairs.old threads.old result pairs.new threads.new }
+    ensures { Ruled (opening_of trace.now) (noted_of trace.now) recording.now.rule.now recording.now.rule_place pairs.old threads.old result pairs.new threads.new }
 {
-    let formula = Formula::make(trace, rule).map_err(|cause| Fault::Rule(cause, start))?;
+    let start = recording.rule_place;
+    let formula =
+        Formula::make(trace, recording.rule).map_err(|cause| Fault::Rule(cause, start))?;
     Ok(judge::judge(trace, &formula, pairs, threads)?)
 }

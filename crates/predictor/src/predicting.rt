@@ -12,7 +12,7 @@ use trace::Trace;
 
 // What the predictor says of a recording: whether some order of its events breaks its rule, how
 // many pairs of a cut and a code can be reached, and how many events there are.
-#[derive(Clone, Copy)]
+#[derive(Clone, Copy, Debug, PartialEq, Eq)]
 pub struct Prediction {
     pub verdict: Verdict,
     pub pairs: usize,
@@ -35,7 +35,7 @@ pub fn predict(
     let mut trace = Trace::open(recording.threads, &recording.starts, rows);
     opened(&trace)?;
     note_all(&mut trace, &recording.actions)?;
-    let judged = judge_rule(&trace, recording.rule, recording.rule_place, pairs, threads)?;
+    let judged = judge_rule(&trace, &recording, pairs, threads)?;
     let events = recording.actions.len();
     Ok(Prediction {
         verdict: judged.verdict,

@@ -95,6 +95,7 @@ fn event(reader: &mut Reader, kind: Kind) -> Result<Action, TextFault>
     let subject = number(reader)?;
     let value = value(reader, kind)?;
     let _ = reader.next();
+    // Stays a number: the kind, as in every action.
     Ok(Action {
         thread,
         kind: u8::from(kind),
@@ -129,6 +130,8 @@ fn actions(heap: Global, reader: &mut Reader) -> Result<Vec<Action>, ReadFault>
 
 // Whether a token of a rule is a number, which has to be in range: wide directly behind a number,
 // and else small.
+// Stays a flag that goes in and one that comes out: whether a number stood ahead tells the range of
+// the next, and nothing else of a token does.
 fn in_range(token: Token, behind: bool) -> Result<bool, TextFault>
     ensures { (p : Piece) (at : Spot) → seen (Some token.entry) ≡ placed (token_of p) at → Role behind p → Checked p at result }
 {

@@ -20,6 +20,9 @@ pub enum TextFault {
 }
 
 // Why a recording is not read.
+// Stays an enum of its own, and no Option: no memory is a reason too, and has its word.
+// Stays beside the predictor's Stop: of one type for both, generic in the fault, the conversions from
+// a fault and from AllocError would overlap.
 #[derive(Clone, Copy, Debug, PartialEq, Eq)]
 pub enum ReadFault {
     Text(TextFault),
@@ -28,6 +31,7 @@ pub enum ReadFault {
 }
 
 impl TextFault {
+    // Stays a method, as at every fault: users call it, and a trait would be one more word for them.
     // Stays a match: a case that holds a place has no discriminant to cast.
     pub fn number(self) -> u8
         ensures { result ≡ text_number self }

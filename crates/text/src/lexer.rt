@@ -1,7 +1,8 @@
 // Cuts a text into tokens.
-ghost use Rattle.std.specs.Prelude.{◌≡◌, ℕ, Bool, ◌+◌, ◌<◌, ◌≤◌, length, drop};
+ghost use Rattle.std.specs.Prelude.{◌≡◌, ℕ, Bool, ◌+◌, ◌<◌, length, drop};
 ghost use Rattle.text.specs.Places.{byte_place};
-ghost use Rattle.text.specs.Tokens.{is_blank as blank, is_letter as letter, is_digit as digit};
+ghost use Rattle.text.specs.Standing.{Onward};
+ghost use Rattle.text.specs.Tokens.{is_blank as blank};
 ghost use Rattle.text.specs.Tokens.{Next, Tells, run, sort_of};
 
 use crate::place::Place;
@@ -13,18 +14,6 @@ pub(crate) fn is_blank(byte: u8) -> bool
     ensures { result ≡ blank byte }
 {
     matches!(byte, b' ' | b'\n')
-}
-
-fn is_letter(byte: u8) -> bool
-    ensures { result ≡ letter byte }
-{
-    byte.is_ascii_lowercase()
-}
-
-fn is_digit(byte: u8) -> bool
-    ensures { result ≡ digit byte }
-{
-    byte.is_ascii_digit()
 }
 
 // Which token a byte of the text begins, if any: a minus begins a number where a digit is behind it.
@@ -64,11 +53,10 @@ impl<'a> Reader<'a> {
         self.at += 1;
     }
 
-    // Passes the bytes that come next, up to the first that is not one of those told by `is`.
+    // Passes the bytes that come next, up to the first of which `is` says no.
     pub(crate) fn pass<F: Fn(u8) -> bool>(&mut self, is: F)
         requires { F.IsAlwaysCallable is }
-        ensures text { self.new.text.now ≡ self.old.text.now }
-        ensures on { self.old.at ≤ self.new.at }
+        ensures onward { Onward self.old self.new }
         ensures at { (kind : ℕ → Bool) → Tells F.post is kind → self.new.at ≡ self.old.at + run kind (drop self.old.at self.old.text.now) }
     {
         // Stays a loop by steps: each keeps the place of the next byte.
@@ -79,6 +67,7 @@ impl<'a> Reader<'a> {
 
     // Passes blanks and line ends, and hands out the next token: none at the end of the text, or
     // at a byte with which no token begins.
+    // Stays a method of its own, and no Iterator's: who has gone through some tokens reads on.
     pub fn next(&mut self) -> Option<Token<'a>>
         ensures text { self.new.text.now ≡ self.old.text.now }
         ensures token { Next self.old.text.now self.old.at result self.new.at }
@@ -93,11 +82,11 @@ impl<'a> Reader<'a> {
             Sort::Open => Some(Token::Open(place)),
             Sort::Close => Some(Token::Close(place)),
             Sort::Word => {
-                self.pass(is_letter);
+                self.pass(|byte| byte.is_ascii_lowercase());
                 Some(Token::Word(&text[from..self.at], place))
             }
             Sort::Number => {
-                self.pass(is_digit);
+                self.pass(|byte| byte.is_ascii_digit());
                 Some(Token::Number(&text[from..self.at], place))
             }
         }

@@ -5,6 +5,7 @@ ghost use Rattle.text.specs.Places.{byte_place};
 use crate::place::Place;
 
 // The text, how many of its bytes are passed, and the place of the next one.
+// Stays beside grammar's Cursor: that one keeps no places, since of a flaw it tells the byte alone.
 #[derive(Clone, Copy)]
 pub struct Reader<'a> {
     pub(crate) text: &'a [u8],

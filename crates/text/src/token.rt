@@ -12,6 +12,7 @@ pub enum Token<'a> {
 }
 
 // Which token begins at a byte.
+// Stays beside Token: which one it is, is known before its end is.
 #[derive(Clone, Copy)]
 pub(crate) enum Sort {
     Open,

@@ -29,7 +29,7 @@ ruling : (c : After-pass) → Stand (pieces c.requires.0) c.pass.new.self (rule_
 ruling c =
     let r = c.requires.0 in
     let six = c.in_ok-actions.ensures _ _ _ r.actions c.requires.1.actions (lining (goal.at.After-pass c).After-next-2) (at_lines r) in
-    at_rule r c.actions.new.reader c.pass.new.self six.1 c.pass.ensures.text (c.pass.ensures.at is_blank (λ x b p. search rules))
+    at_rule r c.actions.new.reader c.pass.new.self six.1 c.pass.ensures.onward.text (c.pass.ensures.at is_blank (λ x b p. search rules))
 
 pub returns-in_err-threads : goal.returns-in_err-threads
 returns-in_err-threads c =
