@@ -16,10 +16,8 @@ const FIRST_EVENT: usize = 2;
 pub(crate) fn opened(trace: &Trace) -> Result<(), Fault>
     ensures { result ≡ opens (opening_of trace.now).void }
 {
-    match trace.void() {
-        Some(why) => Err(Fault::Record(RecordFault::Opening(why), Place::START)),
-        None => Ok(()),
-    }
+    trace.opened().map_err(|why| Fault::Record(RecordFault::Opening(why), Place::START))?;
+    Ok(())
 }
 
 // Notes the action of a line: where it is refused, its own line is at fault.
