@@ -1,4 +1,5 @@
 // Builds a recording from a legal text, token by token. What no legal text has is not looked for.
+// Stays functions, and no methods of Reader: a reader knows tokens, and these what a recording says.
 ghost use Rattle.std.specs.Prelude.{◌≡◌, ℕ, ◌+◌, ◌-◌, ◌<◌, ◌≤◌, true, false, List, ◌∷◌, length, take, drop, ℤ, pos, is_some, Some, codes};
 ghost use Rattle.grammar.specs.Recording.{All, Legal, Piece, Writable, ending, lines};
 ghost use Rattle.grammar.specs.Recording as piece;

@@ -19,7 +19,7 @@ pub trait Number: Sized {
     // the piece of a text that spells the number
     ghost spelling: { Self → Piece };
 
-    // what the library's parsing tells of any bytes of characters
+    // what the library's parsing tells of any UTF-8 bytes
     ghost parses: { List ℕ → Result Self NoNumber → Type 0 };
 
     // The number that the digits at a place spell, which has to be in the range of its piece. Of any
@@ -41,6 +41,8 @@ fn parse<T: FromStr<Err = ParseIntError>>(digits: &[u8], place: Place) -> Result
 }
 
 // Thread counts, threads, labels, variables and locks: at most 255.
+// Stays a body at each type: one for all would have to take, as a law of the trait, what the library's
+// parsing answers at a number's spelling.
 impl Number for u8 {
     ghost spelling = { piece.small };
 
