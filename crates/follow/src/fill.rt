@@ -8,6 +8,7 @@ use crate::object::{OBJECTS, Object};
 use crate::role::{Role, role_of};
 use crate::tables::{CELLS, PLACES, Standing, THREADS, Tables, Tally, cell, slot};
 use events::Event;
+use std::ops::Add;
 
 // The cells of one thread: a row for each count.
 const THREAD_CELLS: usize = PLACES * OBJECTS;
@@ -19,11 +20,13 @@ fn raise(count: &mut u16)
     *count = count.wrapping_add(1);
 }
 
-impl Tally {
-    // Both together.
-    fn plus(self, other: Tally) -> Tally
-        ensures { result ≡ both self other }
-    {
+// Both together, in 16 bits.
+impl Add for Tally {
+    type Output = Tally;
+
+    ghost add_gives = { λ x y result. result ≡ both x y };
+
+    fn add(self, other: Tally) -> Tally {
         Tally {
             led: self.led.wrapping_add(other.led),
             taken: self.taken.wrapping_add(other.taken),
@@ -39,7 +42,7 @@ fn sum_thread(tallies: &mut [Tally; CELLS], thread: usize)
 {
     let first = thread * THREAD_CELLS;
     for i in first + OBJECTS..first + THREAD_CELLS {
-        tallies[i] = tallies[i].plus(tallies[i - OBJECTS]);
+        tallies[i] = tallies[i] + tallies[i - OBJECTS];
     }
 }
 
@@ -73,7 +76,7 @@ impl Tables {
         requires { e.thread < 8 }
         ensures { Entered self.old e self.new }
     {
-        let source = match role_of(e.kind, e.subject) {
+        let source = match role_of(e) {
             Role::Take(object) => {
                 let source = self.groups[object.number].latest;
                 self.take(e, object, source);

@@ -2,8 +2,9 @@
 ghost use Rattle.follow.specs.Roles.{RoleOf};
 
 use crate::object::{LOCKS, Object, VARIABLES};
-use events::Kind;
+use events::{Event, Kind};
 
+// How an event stands to a group.
 pub(crate) enum Role {
     // a write or an acquire: it leads a group of this object
     Lead(Object),
@@ -13,10 +14,12 @@ pub(crate) enum Role {
     Apart,
 }
 
-pub(crate) fn role_of(kind: u8, subject: u8) -> Role
-    ensures { RoleOf kind subject result }
+// The role of an event, by its kind and its subject.
+pub(crate) fn role_of(event: Event) -> Role
+    ensures { RoleOf event.kind event.subject result }
 {
-    match Kind::try_from(kind) {
+    let subject = event.subject;
+    match Kind::try_from(event.kind) {
         Ok(Kind::Read) if subject < VARIABLES => Role::Take(Object::variable(subject)),
         Ok(Kind::Write) if subject < VARIABLES => Role::Lead(Object::variable(subject)),
         Ok(Kind::Acquire) if subject < LOCKS => Role::Lead(Object::lock(subject)),

@@ -10,10 +10,10 @@ use crate::object::{OBJECTS, Object};
 use events::Event;
 use order::Row;
 
-// Threads.
+// How many threads a trace can have.
 pub(crate) const THREADS: usize = 8;
 
-// Of each thread the places of its events, and counts of them, 0 to 255.
+// How many places a thread can have, and counts of its first events: 0 to 255 either way.
 pub(crate) const PLACES: usize = 256;
 
 // A slot for each thread and each place or count.
@@ -26,7 +26,7 @@ pub(crate) const CELLS: usize = SLOTS * OBJECTS;
 #[derive(Clone, Copy)]
 pub(crate) struct Standing {
     pub(crate) event: Event,
-    // thread and place of the event that feeds it, if one does
+    // Thread and place of the event that feeds it, if one does. Stays a pair: it is handed out as one.
     pub(crate) source: Option<(u8, u8)>,
 }
 
@@ -39,7 +39,7 @@ pub(crate) struct Groups {
     pub(crate) starting: u16,
 }
 
-// Of an object's reads or releases, with regard to a thread's first events.
+// How many reads or releases of an object have to do with a thread's first events.
 #[derive(Clone, Copy)]
 pub(crate) struct Tally {
     // how many of them those events feed
@@ -58,8 +58,8 @@ pub struct Tables {
     pub(crate) standings: [Standing; SLOTS],
     // by object
     pub(crate) groups: [Groups; OBJECTS],
-    // by thread, count of its first events, and object: one table for all, since a table for each
-    // thread, with a row for each count, was made in more than twice the time
+    // By thread, count of its first events, and object. Stays one table for all: a table for each
+    // thread, with a row for each count, was made in more than twice the time.
     pub(crate) tallies: [Tally; CELLS],
 }
 
@@ -92,7 +92,8 @@ impl Tables {
         self.total
     }
 
-    // Thread and place of the event that feeds the thread's event of this place, or `NO_SOURCE`.
+    // Thread and place of the event that feeds the thread's event of this place, or `NO_SOURCE`. Stays
+    // a pair that is one of these: a map's row tells its source so.
     pub fn source(&self, thread: u8, place: u8) -> (u8, u8)
         ensures held { result ≡ source_in self.now thread place }
         ensures feeds { (es : List AnEvent) → MadeOf es self.now → (i : ℕ) → i < length es → thread_at es i ≡ thread → place_at es i ≡ place → Source es i result.0 result.1 }
@@ -106,7 +107,7 @@ impl Tables {
     }
 }
 
-// Where a thread's event of this place stands, or a thread's row of this count.
+// Where a thread's event of this place stands; and the row of the tallies of as many first events.
 pub(crate) fn slot(thread: u8, place: u8) -> usize
     ensures { result ≡ slot_of thread place }
 {
