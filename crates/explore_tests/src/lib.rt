@@ -8,8 +8,7 @@ ghost use Rattle.std.specs.Cmp.{unsigned_Decides};
 use explore::{Entry, Machine, Traced};
 use rows::Keyed;
 
-// Two steps, each by 0 or 1: a node is the number of steps, times 16, and their sum. Stays one number:
-// the walk of the theorems, whose listing is proved, has these nodes.
+// Two steps, each by 0 or 1: a node is the number of steps, times 16, and their sum.
 #[derive(Drop)]
 pub struct Walk;
 
@@ -40,6 +39,7 @@ impl Machine<u8> for Walk {
         0
     }
 
+    // Stays with one number for a node: `walk`, whose listing is proved, has its nodes so.
     fn next(&self, node: u8, label: u8) -> Option<u8> {
         // Stays an `if`: `then_some` would add ahead of the test, and `then` takes a closure.
         if node < 32 && label < 2 {

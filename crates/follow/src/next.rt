@@ -25,8 +25,8 @@ fn supplied(cut: [u8; 8], source: Option<(u8, u8)>) -> bool
 }
 
 impl Tables {
-    // Whether a read or a release of the object waits: more are led into the cut than taken. The clause
-    // `small` stays: of an array's numbers a proof knows the bound only where they are read.
+    // Whether a read or a release of the object waits: more are led into the cut than taken. Stays
+    // with the clause `small`: of an array's numbers a proof knows the bound only where they are read.
     fn waits(&self, cut: [u8; 8], object: Object) -> bool
         ensures sums { result ≡ unbalanced self.now cut object.number }
         ensures small { (t : ℕ) → t < 8 → slice_index cut t < 256 }

@@ -54,7 +54,7 @@ pub struct Tables {
     pub(crate) total: usize,
     // of each thread, how many events it has
     pub(crate) counts: [u8; THREADS],
-    // by thread and place
+    // By thread and place. Stays one table: a slot is numbered as the row of its tallies is.
     pub(crate) standings: [Standing; SLOTS],
     // by object
     pub(crate) groups: [Groups; OBJECTS],
@@ -92,12 +92,12 @@ impl Tables {
         self.total
     }
 
-    // Thread and place of the event that feeds the thread's event of this place, or `NO_SOURCE`. Stays
-    // a pair that is one of these: a map's row tells its source so.
+    // Thread and place of the event that feeds the thread's event of this place, or `NO_SOURCE`.
     pub fn source(&self, thread: u8, place: u8) -> (u8, u8)
         ensures held { result ≡ source_in self.now thread place }
         ensures feeds { (es : List AnEvent) → MadeOf es self.now → (i : ℕ) → i < length es → thread_at es i ≡ thread → place_at es i ≡ place → Source es i result.0 result.1 }
     {
+        // Stays a pair, `NO_SOURCE` where none feeds it: a map's row tells its source so.
         if thread < 8 {
             return self.standings[slot(thread, place)]
                 .source
