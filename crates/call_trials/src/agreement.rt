@@ -27,6 +27,7 @@ fn letters() -> [Action; LETTERS] {
 }
 
 // The run with this number: its letters are the number's digits, the first the lowest.
+// Stays apart from the digits of the other test program: the two would need a library for six lines.
 fn run_of(number: usize) -> [Action; MOST] {
     let letters = letters();
     let mut actions = [letters[0]; MOST];
@@ -39,6 +40,7 @@ fn run_of(number: usize) -> [Action; MOST] {
 }
 
 // How many of the runs of this length violate, and how many the two monitors differ on.
+// Stays a range: the runs are known by their numbers.
 fn compare<L: Monitor, R: Monitor>(left: &L, right: &R, length: usize) -> (usize, usize)
     requires { length ≤ 6 }
 {
@@ -55,7 +57,7 @@ fn compare<L: Monitor, R: Monitor>(left: &L, right: &R, length: usize) -> (usize
     (violating, differing)
 }
 
-pub fn agreement(rt: &HostRuntime) -> io::Result<()> {
+pub fn agreement(rt: &impl Print) -> io::Result<()> {
     let mut rows = [Event::BLANK; 1];
     let trace = Trace::open(1, &[], &mut rows);
     let Ok(formula) = Formula::make(&trace, b"(implies (mark 5) (once (mark 4)))") else {
@@ -65,6 +67,7 @@ pub fn agreement(rt: &HostRuntime) -> io::Result<()> {
     let Ok(automaton) = Automaton::new(3, 0, 2, &arcs) else {
         return println!(rt; "no automaton");
     };
+    // Stays a range: lengths are numbers, and no places.
     for length in 0..=MOST {
         let (violating, differing) = compare(&formula, &automaton, length);
         println!(rt; "runs of {length}: {violating} violate, {differing} differ")?;

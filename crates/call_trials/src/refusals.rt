@@ -11,7 +11,7 @@ use std::io;
 use trace::Trace;
 
 // Events that are refused one by one, and those that are not.
-pub fn notes(rt: &HostRuntime) -> io::Result<()> {
+pub fn notes(rt: &impl Print) -> io::Result<()> {
     let mut rows = [Event::BLANK; 4];
     let mut trace = Trace::open(2, &[5], &mut rows);
     let asked = [
@@ -40,7 +40,7 @@ pub fn notes(rt: &HostRuntime) -> io::Result<()> {
 }
 
 // A void trace refuses every call, and keeps its own number.
-pub fn void_calls(rt: &HostRuntime) -> io::Result<()> {
+pub fn void_calls(rt: &impl Print, monitor: &impl Monitor) -> io::Result<()> {
     let mut rows = [Event::BLANK; 4];
     let mut trace = Trace::open(9, &[], &mut rows);
     let number = trace.number();
@@ -48,37 +48,31 @@ pub fn void_calls(rt: &HostRuntime) -> io::Result<()> {
     say(rt, "note void", note(&mut trace, action(9, 9, 99, 1)))?;
     let mut map_rows = [Row::BLANK; 1];
     say(rt, "map void", map(&trace, &mut map_rows))?;
-    let arcs = [STEP];
-    let Ok(automaton) = Automaton::new(2, 0, 1, &arcs) else {
-        return Ok(());
-    };
-    say(rt, "replay void", replay(&trace, &[], &automaton))?;
+    say(rt, "replay void", replay(&trace, &[], monitor))?;
     let mut pairs = [SearchRow::BLANK; 1];
     say(
         rt,
         "judge void",
-        judge(&trace, &automaton, &mut pairs, &mut []),
+        judge(&trace, monitor, &mut pairs, &mut []),
     )
 }
 
-// Thread 1 writes 3, thread 0 writes 5 and reads it.
-fn three(trace: &mut Trace) {
+// The trace in which thread 1 writes 3, and thread 0 writes 5 and reads it.
+fn three(rows: &mut [Event]) -> Trace<'_> {
+    let mut trace = Trace::open(2, &[0], rows);
     for action in [action(1, 2, 0, 3), action(0, 2, 0, 5), action(0, 1, 0, 5)] {
-        let _ = note(trace, action);
+        let _ = note(&mut trace, action);
     }
+    trace
 }
 
-pub fn maps_and_replays(rt: &HostRuntime) -> io::Result<()> {
+// Maps into few rows and into enough, and lists of threads of which the last two are granted.
+pub fn maps_and_replays(rt: &impl Print, monitor: &impl Monitor) -> io::Result<()> {
     let mut rows = [Event::BLANK; 4];
-    let mut trace = Trace::open(2, &[0], &mut rows);
-    three(&mut trace);
+    let trace = three(&mut rows);
     let mut map_rows = [Row::BLANK; 4];
     say(rt, "map into 2 rows", map(&trace, &mut map_rows[..2]))?;
     say(rt, "map into 4 rows", map(&trace, &mut map_rows))?;
-    let arcs = [STEP];
-    let Ok(automaton) = Automaton::new(2, 0, 1, &arcs) else {
-        return Ok(());
-    };
     let lists: [(&str, &[u8]); 6] = [
         ("replay 0 0", &[0, 0]),
         ("replay 0 2 0", &[0, 2, 0]),
@@ -88,13 +82,13 @@ pub fn maps_and_replays(rt: &HostRuntime) -> io::Result<()> {
         ("replay 0 0 1", &[0, 0, 1]),
     ];
     for (call, threads) in lists {
-        say(rt, call, replay(&trace, threads, &automaton))?;
+        say(rt, call, replay(&trace, threads, monitor))?;
     }
-    passing(rt, &automaton)
+    passing(rt, monitor)
 }
 
 // Thread 1 reads what thread 0 wrote: it cannot begin.
-fn passing<M: Monitor>(rt: &HostRuntime, monitor: &M) -> io::Result<()> {
+fn passing(rt: &impl Print, monitor: &impl Monitor) -> io::Result<()> {
     let mut rows = [Event::BLANK; 4];
     let mut trace = Trace::open(2, &[0, 0], &mut rows);
     let _ = note(&mut trace, action(0, 2, 0, 7));
@@ -103,14 +97,9 @@ fn passing<M: Monitor>(rt: &HostRuntime, monitor: &M) -> io::Result<()> {
 }
 
 // Judges with so many rows and a list of so many threads.
-pub fn judges(rt: &HostRuntime) -> io::Result<()> {
+pub fn judges(rt: &impl Print, monitor: &impl Monitor) -> io::Result<()> {
     let mut rows = [Event::BLANK; 4];
-    let mut trace = Trace::open(2, &[0], &mut rows);
-    three(&mut trace);
-    let arcs = [STEP];
-    let Ok(automaton) = Automaton::new(2, 0, 1, &arcs) else {
-        return Ok(());
-    };
+    let trace = three(&mut rows);
     let mut pairs = [SearchRow::BLANK; 65537];
     let mut threads = [9u8; 4];
     let lent = [
@@ -127,14 +116,14 @@ pub fn judges(rt: &HostRuntime) -> io::Result<()> {
         say(
             rt,
             call,
-            judge(&trace, &automaton, &mut pairs[..rows], &mut threads[..list]),
+            judge(&trace, monitor, &mut pairs[..rows], &mut threads[..list]),
         )?;
     }
     Ok(())
 }
 
 // Automata that are refused one by one, and one that is not.
-pub fn automata(rt: &HostRuntime) -> io::Result<()> {
+pub fn automata(rt: &impl Print) -> io::Result<()> {
     let asked = [
         (0, 0, 0, STEP),
         (33, 40, 0, STEP),

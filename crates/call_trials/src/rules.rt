@@ -22,7 +22,7 @@ fn run() -> [Action; 8] {
 }
 
 // The rule's truth after each event, 1 or 0, and then whether the code is bad.
-fn say(rt: &HostRuntime, rule: &str) -> io::Result<()> {
+fn say(rt: &impl Print, rule: &str) -> io::Result<()> {
     let mut rows = [Event::BLANK; 1];
     let trace = Trace::open(2, &[4], &mut rows);
     match Formula::make(&trace, rule.as_bytes()) {
@@ -40,7 +40,7 @@ fn say(rt: &HostRuntime, rule: &str) -> io::Result<()> {
     }
 }
 
-pub fn operators(rt: &HostRuntime) -> io::Result<()> {
+pub fn operators(rt: &impl Print) -> io::Result<()> {
     for rule in [
         "(eq 0 4)",
         "(lt 0 5)",

@@ -6,6 +6,7 @@ use monitor::Verdict;
 use replay::ReplayRefusal;
 use std::{fmt, io};
 
+// Stays with numbers for refusals: what is printed of a refusal is its number.
 #[derive(Clone, Copy)]
 pub enum Said {
     Place(u8),
@@ -29,6 +30,7 @@ impl fmt::Display for Said {
     }
 }
 
+// Stays four conversions with a like arm: a refusal's number is a method of each, and of no trait.
 impl From<Result<u8, Refusal>> for Said {
     fn from(answer: Result<u8, Refusal>) -> Said {
         match answer {
@@ -66,7 +68,7 @@ impl From<Result<Judgement, JudgeRefusal>> for Said {
 }
 
 // Prints what a call says.
-pub fn say<A>(rt: &HostRuntime, call: &str, answer: A) -> io::Result<()>
+pub fn say<A>(rt: &impl Print, call: &str, answer: A) -> io::Result<()>
 where
     Said: From<A>,
 {

@@ -68,6 +68,7 @@ fn main(rt: HostRuntime) -> io::Result<()> {
     let mut input = Vec::new(rt.alloc());
     rt.stdin().take(LARGEST).read_to_end(&mut input)?;
     let mut rest = input.as_slice();
+    // Stays a while: an iterator of cases would be a struct and an impl for this one pass.
     while let Some((case, after)) = next_case(rest) {
         say(&rt, case, &mut rows, &mut pairs, &mut threads)?;
         rest = after;

@@ -39,7 +39,7 @@ fn mixed(digest: u64, n: u64) -> u64 {
 }
 
 // The list with this number, of all lists of so many threads: its digits, the first the lowest.
-// The other test program takes digits of its own: the two would need a library for six lines.
+// Stays apart from the digits of the other test program: the two would need a library for six lines.
 fn list_of(number: usize, threads: u8) -> [u8; MOST] {
     let mut list = [0u8; MOST];
     let mut rest = number;
@@ -76,6 +76,7 @@ fn map_digest(rows: &[Row]) -> u64 {
 }
 
 // Replays every list of so many events.
+// Stays a range: the lists are known by their numbers.
 fn replays(tables: &Tables, threads: u8, events: usize, formula: &Formula, map: u64) -> Digests
     requires { events ≤ 8 }
 {
