@@ -35,7 +35,7 @@ impl<'a> Cursor<'a> {
         comes
     }
 
-    // The flaw of a text that cannot go on as it does from here.
+    // The flaw of a text whose next byte, or whose end, is wrong.
     pub(crate) fn flaw(&self) -> Flaw
         ensures { behind [] self.now ≡ flawed result }
     {

@@ -17,7 +17,8 @@ pub(crate) enum Inside {
     TwoFormulas,
 }
 
-// How many of the words hold no formula.
+// How many of the words hold no formula. Stays a count beside the table: a table of these alone would
+// say their words twice, and to read by two tables would be to compare their flaws.
 const LEAVES: usize = 5;
 
 // The words that a formula begins with, first those that hold no formula.

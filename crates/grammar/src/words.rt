@@ -18,7 +18,7 @@ impl<'a> Cursor<'a> {
                     *self = ahead;
                     return Ok(*meaning);
                 }
-                Err(other) => flaw = flaw.further(other),
+                Err(other) => flaw = flaw.max(other),
             }
         }
         Err(flaw)
