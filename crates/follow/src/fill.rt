@@ -6,8 +6,8 @@ ghost use Rattle.follow.specs.Made.{MadeOf, Small};
 
 use crate::object::{OBJECTS, Object};
 use crate::role::{Role, role_of};
-use crate::tables::{CELLS, PLACES, Standing, THREADS, Tables, Tally, cell, slot};
-use events::Event;
+use crate::tables::{CELLS, PLACES, Standing, Tables, Tally, cell, slot};
+use events::{Event, THREADS};
 use std::ops::Add;
 
 // The cells of one thread: a row for each count.

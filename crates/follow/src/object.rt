@@ -1,11 +1,9 @@
 // Variables and locks, numbered together.
 ghost use Rattle.std.specs.Prelude.{◌≡◌, ◌+◌, ◌<◌};
 
-pub(crate) const VARIABLES: u8 = 32;
+use events::{LOCKS, VARIABLES};
 
-pub(crate) const LOCKS: u8 = 16;
-
-pub(crate) const OBJECTS: usize = VARIABLES as usize + LOCKS as usize;
+pub(crate) const OBJECTS: usize = VARIABLES + LOCKS;
 
 // A variable or a lock: variable x has the number x, and lock l the number 32 + l.
 #[derive(Clone, Copy)]

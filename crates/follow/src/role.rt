@@ -1,8 +1,8 @@
 // What an event is to the groups of its variable or lock.
 ghost use Rattle.follow.specs.Roles.{RoleOf};
 
-use crate::object::{LOCKS, Object, VARIABLES};
-use events::{Event, Kind};
+use crate::object::Object;
+use events::{Event, Kind, LOCKS, VARIABLES};
 
 // How an event stands to a group.
 pub(crate) enum Role {
@@ -20,10 +20,10 @@ pub(crate) fn role_of(event: Event) -> Role
 {
     let subject = event.subject;
     match Kind::try_from(event.kind) {
-        Ok(Kind::Read) if subject < VARIABLES => Role::Take(Object::variable(subject)),
-        Ok(Kind::Write) if subject < VARIABLES => Role::Lead(Object::variable(subject)),
-        Ok(Kind::Acquire) if subject < LOCKS => Role::Lead(Object::lock(subject)),
-        Ok(Kind::Release) if subject < LOCKS => Role::Take(Object::lock(subject)),
+        Ok(Kind::Read) if (subject as usize) < VARIABLES => Role::Take(Object::variable(subject)),
+        Ok(Kind::Write) if (subject as usize) < VARIABLES => Role::Lead(Object::variable(subject)),
+        Ok(Kind::Acquire) if (subject as usize) < LOCKS => Role::Lead(Object::lock(subject)),
+        Ok(Kind::Release) if (subject as usize) < LOCKS => Role::Take(Object::lock(subject)),
         _ => Role::Apart,
     }
 }

@@ -7,11 +7,8 @@ ghost use Rattle.follow.specs.Filling.{blank_tables};
 ghost use Rattle.follow.specs.Made.{slot_of, cell_of, MadeOf, source_in};
 
 use crate::object::{OBJECTS, Object};
-use events::Event;
+use events::{Event, THREADS};
 use order::Row;
-
-// How many threads a trace can have.
-pub(crate) const THREADS: usize = 8;
 
 // How many places a thread can have, and counts of its first events: 0 to 255 either way.
 pub(crate) const PLACES: usize = 256;
