@@ -10,24 +10,28 @@ pub struct Case<'a> {
     pub text: &'a [u8],
 }
 
+// The number that the line begins with, and what stands behind the blank after it.
+fn number(line: &[u8]) -> Option<(usize, &[u8])> {
+    let blank = line.iter().position(|byte| *byte == b' ')?;
+    let number = std::str::from_utf8(&line[..blank]).ok()?.parse().ok()?;
+    Some((number, &line[blank + 1..]))
+}
+
 // The case that the input begins with and the input after it, or None where it begins with no whole
-// case.
+// case. A name that is no UTF-8 is told as `?`.
 pub fn next_case(input: &[u8]) -> Option<(Case<'_>, &[u8])>
     ensures { IfSome result (λ found. length found.1.now < length input.now) }
 {
     let end = input.iter().position(|byte| *byte == b'\n')?;
-    let line = std::str::from_utf8(&input[..end]).ok()?;
-    let (rows, line) = line.split_once(' ')?;
-    let (length, name) = line.split_once(' ')?;
-    let rows = rows.parse::<usize>().ok()?;
-    let length = length.parse::<usize>().ok()?;
+    let (rows, line) = number(&input[..end])?;
+    let (length, name) = number(line)?;
     let rest = &input[end + 1..];
     if length >= rest.len() {
         return None;
     }
     let case = Case {
         rows,
-        name,
+        name: std::str::from_utf8(name).unwrap_or("?"),
         text: &rest[..length],
     };
     Some((case, &rest[length + 1..]))

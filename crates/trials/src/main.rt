@@ -9,38 +9,51 @@ use events::Event;
 use judge::{SearchRow, Verdict};
 use predictor::{Prediction, Stop};
 use small::{Digests, look};
-use std::io;
 use std::io::Read;
+use std::{fmt, io};
 use trace::Trace;
 
 // More input than the cases have.
 const LARGEST: u64 = 16777216;
 
 // A small trace through its other calls.
-fn looked_at(rt: &HostRuntime, text: &[u8], rows: &mut [Event]) -> Option<Digests> {
+fn looked_at(rt: &impl AllocGlobal, text: &[u8], rows: &mut [Event]) -> Option<Digests> {
     let recording = text::read(rt.alloc(), text).ok()?;
     let mut trace = Trace::open(recording.threads, &recording.starts, rows);
     look(&mut trace, &recording)
 }
 
 // A verdict with its pairs and, where an order breaks the rule, the threads of that order.
-fn tell(rt: &HostRuntime, name: &str, prediction: Prediction, threads: &[u8]) -> io::Result<()> {
-    let pairs = prediction.pairs;
-    match prediction.verdict {
-        Verdict::None => println!(rt; "{name}: none {pairs}"),
-        Verdict::Found => {
-            print!(rt; "{name}: found {pairs}")?;
-            for thread in threads.iter().take(prediction.events) {
-                print!(rt; " {thread}")?;
+// Stays apart from what the program prints: the two have other words and signs.
+#[derive(Clone, Copy)]
+struct Told<'a> {
+    prediction: Prediction,
+    threads: &'a [u8],
+}
+
+impl<'a> fmt::Display for Told<'a> {
+    fn fmt<W: fmt::Write>(&self, f: &mut fmt::Formatter<W>) -> fmt::Result {
+        let Prediction {
+            verdict,
+            pairs,
+            events,
+        } = self.prediction;
+        match verdict {
+            Verdict::None => write!(f, "none {pairs}"),
+            Verdict::Found => {
+                write!(f, "found {pairs}")?;
+                for thread in self.threads.iter().take(events) {
+                    write!(f, " {thread}")?;
+                }
+                Ok(())
             }
-            println!(rt; "")
         }
     }
 }
 
 // What is printed of a case.
 fn say(
-    rt: &HostRuntime,
+    rt: &(impl Print + AllocGlobal),
     case: Case,
     rows: &mut [Event],
     pairs: &mut [SearchRow],
@@ -50,7 +63,13 @@ fn say(
     let count = case.rows.min(rows.len());
     match predictor::predict(rt.alloc(), case.text, &mut rows[0..count], pairs, threads) {
         Ok(prediction) => {
-            tell(rt, name, prediction, threads)?;
+            println!(rt;
+                "{name}: {}",
+                Told {
+                    prediction,
+                    threads
+                }
+            )?;
             if let Some(digests) = looked_at(rt, case.text, &mut rows[0..count]) {
                 println!(rt; "{name}: {digests}")?;
             }

@@ -75,9 +75,9 @@ fn map_digest(rows: &[Row]) -> u64 {
     digest
 }
 
-// Replays every list of so many events.
+// Replays every list of so many events: how many are consistent runs, and the digest of them.
 // Stays a range: the lists are known by their numbers.
-fn replays(tables: &Tables, threads: u8, events: usize, formula: &Formula, map: u64) -> Digests
+fn replays(tables: &Tables, threads: u8, events: usize, formula: &Formula) -> (usize, u64)
     requires { events ≤ 8 }
 {
     let lists = (threads as usize).saturating_pow(events as u32);
@@ -91,7 +91,7 @@ fn replays(tables: &Tables, threads: u8, events: usize, formula: &Formula, map: 
             digest = mixed(digest, u64::from(verdict.violated));
         }
     }
-    Digests { runs, digest, map }
+    (runs, digest)
 }
 
 // Notes the recording in the trace and looks at it, where it is small.
@@ -108,5 +108,6 @@ pub fn look(trace: &mut Trace, recording: &Recording) -> Option<Digests> {
     let map = map_digest(rows.get(..written)?);
     let formula = Formula::make(trace, recording.rule).ok()?;
     let tables = Tables::make(trace.events());
-    Some(replays(&tables, trace.threads(), events, &formula, map))
+    let (runs, digest) = replays(&tables, trace.threads(), events, &formula);
+    Some(Digests { runs, digest, map })
 }
