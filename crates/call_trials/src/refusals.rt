@@ -40,6 +40,7 @@ pub fn notes(rt: &impl Print) -> io::Result<()> {
 }
 
 // A void trace refuses every call, and keeps its own number.
+// Stays two parameters: what prints and what watches have nothing in common.
 pub fn void_calls(rt: &impl Print, monitor: &impl Monitor) -> io::Result<()> {
     let mut rows = [Event::BLANK; 4];
     let mut trace = Trace::open(9, &[], &mut rows);
