@@ -18,7 +18,6 @@ pub(crate) fn judge_rule(
     ensures { Ruled (opening_of trace.now) (noted_of trace.now) recording.now.rule.now recording.now.rule_place pairs.old threads.old result pairs.new threads.new }
 {
     let start = recording.rule_place;
-    let formula =
-        Formula::make(trace, recording.rule).map_err(|cause| Fault::Rule(cause, start))?;
+    let formula = Formula::make(trace, recording.rule).map_err(|cause| Fault::Rule(cause, start))?;
     Ok(judge::judge(trace, &formula, pairs, threads)?)
 }
