@@ -1,8 +1,8 @@
--- The bits of what `|` and `^` give, of one bit alone, and of a part of a code.
-use Rattle.std.proofs.Common.{◌≡◌, ℕ, zero, suc, ◌+◌, ◌/◌, ◌%◌, ◌^◌, ◌<◌, ◌≤◌, Bool, true, false, cond, max, not, ◌&&◌, ◌||◌, eqb, ltb, ◌⊎◌, sym, refl, ap, ◌∙◌, inl, inr, arith}
+-- The bits of what `&`, `|` and `^` give, of one bit alone, and of a part of a code.
+use Rattle.std.proofs.Common.{◌≡◌, ℕ, zero, suc, ◌+◌, ◌/◌, ◌%◌, ◌^◌, ◌<◌, ◌≤◌, Bool, true, false, cond, max, min, not, ◌&&◌, ◌||◌, eqb, ltb, ◌⊎◌, sym, refl, ap, ◌∙◌, inl, inr, arith}
 use Rattle.std.specs.Int.{bit_at}
-use Rattle.std.proofs.lemmas.Nat.Bits.{bit_at_or, bit_at_xor, bit_at-zero, bit_at-lt, bit_at-pow_same, bit_at-pow_other}
-use lib.Bits.{bit_or, bit_xor}
+use Rattle.std.proofs.lemmas.Nat.Bits.{bit_at_and, bit_at_or, bit_at_xor, bit_at-zero, bit_at-lt, bit_at-pow_same, bit_at-pow_other}
+use lib.Bits.{bit_and, bit_or, bit_xor}
 use Rattle.std.proofs.lemmas.Nat.{mod_below, div-add-mod', pow_pos}
 use Rattle.std.proofs.lemmas.Bool.{cases_lt, cases_eq, eq-eqb, ne_eqb, lt-ltb, le-ltb, cond-true}
 use Rattle.codes.specs.Codes.{bit_of, only_bit}
@@ -27,6 +27,10 @@ differs a b = cond a (not b) b
 pub bit_or_lem : (a b s : ℕ) → bit_of (bit_or a b) s ≡ (bit_of a s || bit_of b s)
 unfolding bit_of
 bit_or_lem a b s = ap (λ n. eqb n 1) (bit_at_or a b s) ∙ digits max ◌||◌ refl refl refl refl _ _ (bit_at-lt a s) (bit_at-lt b s)
+
+pub bit_and_lem : (a b s : ℕ) → bit_of (bit_and a b) s ≡ (bit_of a s && bit_of b s)
+unfolding bit_of
+bit_and_lem a b s = ap (λ n. eqb n 1) (bit_at_and a b s) ∙ digits min ◌&&◌ refl refl refl refl _ _ (bit_at-lt a s) (bit_at-lt b s)
 
 pub bit_xor_lem : (a b s : ℕ) → bit_of (bit_xor a b) s ≡ differs (bit_of a s) (bit_of b s)
 unfolding bit_of

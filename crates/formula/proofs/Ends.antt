@@ -1,14 +1,16 @@
 -- The whole code after an event, and at the start.
-use Rattle.std.proofs.Common.{◌≡◌, ℕ, zero, suc, ◌+◌, ◌^◌, ◌<◌, ◌≤◌, Bool, true, false, cond, not, ◌&&◌, ◌||◌, eqb, ltb, leb, ◌⊎◌, List, ℤ, sym, refl, ap, ◌∙◌, subst, inl, inr, arith}
+use Rattle.std.proofs.Common.{◌≡◌, ℕ, zero, suc, ◌+◌, ◌^◌, ◌<◌, ◌≤◌, Bool, true, false, cond, not, ◌&&◌, ◌||◌, eqb, ltb, leb, ◌⊎◌, List, take, ℤ, pos, sym, refl, ap, ◌∙◌, subst, inl, inr, arith, get_or-take}
 use mathlib.Core.Bool.{or-false, and-true, and-false}
 use lib.Bits.{bit_or}
+use lib.Signed.{lt_z}
 use Rattle.std.proofs.lemmas.Bool.{cases_lt, cases_order, le-leb, lt-ltb, le-ltb, eq-eqb, ne_eqb}
 use Rattle.codes.specs.Codes.{bit_of, code_of}
 use Rattle.codes.proofs.Codes.{code_lt, code_ext, code_none, code_bits, or_code, only_code, bit_code}
 use Rattle.events.specs.declared.event.Action.{Action}
 use Rattle.formula.specs.declared.node.Node.{Node}
-use Rattle.formula.specs.Table.{node_at, Sound}
-use Rattle.formula.specs.Step.{eval, bits, stepped, Turn, initial}
+use Rattle.formula.specs.declared.node.Node.TheVariants.{Eq, Lt, Gt, Mark, By, Not, Before, Once, Always, And, Or, Implies, Since}
+use Rattle.formula.specs.Table.{node_at, Inside, Sound}
+use Rattle.formula.specs.Step.{eval, bits, stepped, Turn, eq_z, initial}
 use Rattle.formula.proofs.Evals.{from, inside_parts, truth_ext, eval_fix}
 
 -- the flag: whether the code after the event is bad
@@ -127,6 +129,22 @@ module _ (v n : ℕ) (nodes : List Node) (s : Sound v n nodes) (some : 0 < n) (f
         later = stepped_over 60 few (omega arith);
         bad = stepped_over 61 (omega arith) (omega arith) ∙ ap (λ b. bit_of c 61 || not b) (sym (stepped_at 0 some));
       }
+
+-- what begins with the known starting values
+pub initial_known : (v n i : ℕ) (starts : List ℤ) (node : Node) → Inside v n i node → initial (take v starts) node ≡ initial starts node
+initial_known v n i starts (Eq x c) h = ap (λ z. eq_z z c) (get_or-take v starts x (pos 0) h)
+initial_known v n i starts (Lt x c) h = ap (λ z. lt_z z c) (get_or-take v starts x (pos 0) h)
+initial_known v n i starts (Gt x c) h = ap (λ z. lt_z c z) (get_or-take v starts x (pos 0) h)
+initial_known v n i starts (Mark k) h = refl
+initial_known v n i starts (By t) h = refl
+initial_known v n i starts (Not f) h = refl
+initial_known v n i starts (Before f) h = refl
+initial_known v n i starts (Once f) h = refl
+initial_known v n i starts (Always f) h = refl
+initial_known v n i starts (And f g) h = refl
+initial_known v n i starts (Or f g) h = refl
+initial_known v n i starts (Implies f g) h = refl
+initial_known v n i starts (Since f g) h = refl
 
 -- the start, turn by turn
 abbrev pub begun : List ℤ → List Node → ℕ → ℕ

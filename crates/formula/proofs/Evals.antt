@@ -39,6 +39,22 @@ inside_parts v n i (Once f) h = between_parts i n f h
 inside_parts v n i (Always f) h = between_parts i n f h
 inside_parts v n i (Since f g) h = both_parts i n f g h
 
+-- what is inside stays so under wider bounds
+pub inside_wider : (v w m n i j : ℕ) (node : Node) → v ≤ w → m ≤ n → j ≤ i → Inside v m i node → Inside w n j node
+inside_wider v w m n i j (Eq x c) a b d h = omega arith
+inside_wider v w m n i j (Lt x c) a b d h = omega arith
+inside_wider v w m n i j (Gt x c) a b d h = omega arith
+inside_wider v w m n i j (Mark k) a b d h = tt
+inside_wider v w m n i j (By t) a b d h = tt
+inside_wider v w m n i j (Not f) a b d h = (omega arith, omega arith)
+inside_wider v w m n i j (And f g) a b d h = (omega arith, omega arith, omega arith, omega arith)
+inside_wider v w m n i j (Or f g) a b d h = (omega arith, omega arith, omega arith, omega arith)
+inside_wider v w m n i j (Implies f g) a b d h = (omega arith, omega arith, omega arith, omega arith)
+inside_wider v w m n i j (Before f) a b d h = (omega arith, omega arith)
+inside_wider v w m n i j (Once f) a b d h = (omega arith, omega arith)
+inside_wider v w m n i j (Always f) a b d h = (omega arith, omega arith)
+inside_wider v w m n i j (Since f g) a b d h = (omega arith, omega arith, omega arith, omega arith)
+
 -- a truth hangs on the later subformulas alone
 pub truth_ext : (v n i : ℕ) (node : Node) (old s t : ℕ → Bool) (e : Action) → Inside v n i node → ((k : ℕ) → i < k → k < n → s k ≡ t k)
     → truth node i old s e ≡ truth node i old t e

@@ -31,18 +31,18 @@ truthful t f tab run zero low h i l = absurd (omega arith)
 truthful t f tab run (suc k) low h i l =
     let at = placed t.table.nodes t.table.len f 0 tab.numbered (omega (arith, tab.all)) i f l in
     let same : 0 + i ≡ i = omega arith in
-    let told = holds_at (starts_of t) t.table.nodes (length t.starts) t.table.len t.sound t.table.some t.table.few run (get_or (subformulas f) i f) (0 + i) at.1 at.0 k in
+    let told = holds_at (starts_of t) t.table.nodes (length t.starts) t.table.len t.sound t.some t.few run (get_or (subformulas f) i f) (0 + i) at.1 at.0 k in
     Decides-at _ _ (ap (λ c. bit_of c i) (codes_ran t run (suc k) h))
     (subst (λ j. Decides (bit_of (codes (starts_of t) t.table.nodes t.table.len run (suc k)) j) (Holds (starts_of t) run (get_or (subformulas f) i f) (suc k))) same told)
 
 faithful : (t : Compiled) (f : Formula) → Tabled t.table.nodes t.table.len f → Faithful (starts_of t) t f
 faithful t f tab run zero h =
     let clear : bit_of (code_after t run 0) 61 ≡ false =
-    ap (λ c. bit_of c 61) (codes_ran t run 0 h) ∙ begin_over (starts_of t) t.table.nodes (length t.starts) t.table.len t.sound t.table.some t.table.few run 61 (omega (arith, t.table.few)) (omega arith) in
+    ap (λ c. bit_of c 61) (codes_ran t run 0 h) ∙ begin_over (starts_of t) t.table.nodes (length t.starts) t.table.len t.sound t.some t.few run 61 (omega (arith, t.few)) (omega arith) in
     (λ y. absurd (false≢true (sym clear ∙ y)), λ q. absurd (omega (arith, q.1, q.2)))
 faithful t f tab run (suc k) h =
     Decides-at _ _ (ap (λ c. bit_of c 61) (codes_ran t run (suc k) h))
-    (flag_at (starts_of t) t.table.nodes (length t.starts) t.table.len t.sound t.table.some t.table.few run f (omega (arith, tab.all)) tab.numbered k)
+    (flag_at (starts_of t) t.table.nodes (length t.starts) t.table.len t.sound t.some t.few run f (omega (arith, tab.all)) tab.numbered k)
 
 pub all_watch : AllWatch
 all_watch t f tab = record { truths = truthful t f tab; bad = faithful t f tab }

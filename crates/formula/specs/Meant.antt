@@ -26,5 +26,5 @@ meant t = record {
   start = started (starts_of t) t.table.nodes t.table.len;
   step = stepped t.table.nodes t.table.len;
   bad = λ c. bit_of c 61;
-  stays = λ c a h. bad_stays t.table.nodes t.table.len c a t.table.few h;
+  stays = λ c a h. bad_stays t.table.nodes t.table.len c a t.few h;
 }

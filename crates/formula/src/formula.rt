@@ -1,5 +1,5 @@
 // Formulas.
-ghost use Rattle.std.specs.Prelude.{length};
+ghost use Rattle.std.specs.Prelude.{◌<◌, ◌≤◌, length};
 ghost use Rattle.formula.specs.Table.{Sound};
 
 use crate::node::Table;
@@ -11,5 +11,7 @@ use events::Starts;
 pub struct Formula {
     pub(crate) table: Table,
     pub(crate) starts: Starts,
+    ghost some: { 0 < table.len },
+    ghost few: { table.len ≤ 60 },
     ghost sound: { Sound (length starts) table.len table.nodes },
 }

@@ -1,5 +1,5 @@
 // Tables of subformulas.
-ghost use Rattle.std.specs.Prelude.{◌≡◌, ◌<◌, ◌≤◌, length, take};
+ghost use Rattle.std.specs.Prelude.{◌≡◌, ◌≤◌, length, take};
 
 // The most subformulas that a formula may have.
 pub(crate) const MOST: usize = 60;
@@ -33,12 +33,11 @@ pub enum Node {
 pub struct Table {
     pub nodes: [Node; MOST],
     pub len: u8,
-    ghost some: { 0 < len },
-    ghost few: { len ≤ 60 },
 }
 
 impl Table {
     pub(crate) fn as_slice(&self) -> &[Node]
+        requires { self.now.len ≤ 60 }
         ensures nodes { result.now ≡ take self.now.len self.now.nodes }
         ensures len { length result.now ≡ self.now.len }
     {

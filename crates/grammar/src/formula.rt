@@ -1,5 +1,5 @@
 // Readers of formulas.
-ghost use Rattle.std.specs.Prelude.{[], ◌∷◌, IfOk};
+ghost use Rattle.std.specs.Prelude.{◌<◌, [], ◌∷◌, IfOk};
 ghost use Rattle.grammar.specs.Machine.{n, form};
 ghost use Rattle.grammar.specs.Reading.{Fits, Onward, Reads, ReadsFormulaWord};
 
@@ -43,6 +43,7 @@ impl<'a> Cursor<'a> {
     // for brackets inside its own, a formula holds no other.
     fn formula_word(&mut self, room: u8) -> Result<Inside, Flaw>
         ensures onward { Onward self.old self.new }
+        ensures passed { IfOk result (λ _. self.old.at < self.new.at) }
         ensures fits { IfOk result (Fits room) }
         ensures moves { ReadsFormulaWord room self.old result self.new }
     {

@@ -7,8 +7,8 @@ use pairs::Pair;
 use rows::Keyed;
 
 // A pair of a cut and a code, the row that it was first found from, and the thread whose event led
-// from there. Row 0, which nothing led to, has 0 and 255. Stays a struct of plain numbers, and no
-// generic row of explore's: users read search rows in this form, by these names.
+// from there. Row 0, which nothing led to, has 0 and 255. Stays a struct of its own, and no generic row
+// of explore's: users read search rows by these names.
 #[derive(Clone, Copy, Debug, PartialEq, Eq)]
 pub struct SearchRow {
     pub pair: Pair,

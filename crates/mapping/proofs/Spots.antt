@@ -1,9 +1,11 @@
 -- Where the rows stand: each event's row has a position of its own, by thread and then by place, and each position a row.
-use Rattle.std.proofs.Common.{◌≡◌, ℕ, zero, suc, ◌+◌, ◌-◌, ◌<◌, ◌≤◌, Bool, ltb, List, length, get_or, take, sym, refl, ap, ◌∙◌, subst, ap₂, inl, inr, add-one, arith}
+use Rattle.std.proofs.Common.{◌≡◌, ℕ, zero, suc, ◌+◌, ◌-◌, ◌<◌, ◌≤◌, Bool, ltb, List, length, get_or, take, set, sym, refl, ap, ◌∙◌, subst, ap₂, inl, inr, add-one, arith}
 use Rattle.std.specs.List.{count_by}
 use Rattle.std.proofs.Math.Seq.{take-length}
 use Rattle.std.proofs.lemmas.List.Sums.{count_by_more_yes, count_by_more_no}
-use Rattle.std.proofs.lemmas.Bool.{cases_lt, cases_order, lt-ltb, le-ltb}
+use Rattle.std.proofs.lemmas.List.Edits.{fill_by_more}
+use Rattle.std.proofs.lemmas.List.{get_or-set_same, get_or-set_other}
+use Rattle.std.proofs.lemmas.Bool.{cases_lt, cases_eq, cases_order, lt-ltb, le-ltb}
 use Rattle.events.specs.declared.event.Event.{Event}
 use Rattle.order.specs.Trace.{blank, thread_at, place_at}
 use Rattle.order.specs.Sound.{count, Sound}
@@ -79,6 +81,38 @@ module _ (es : List Event) where
   start_is t =
       let below : Event → Bool = λ e. ltb e.thread t in
       ap (count_by below) (sym (take-length es)) ∙ among_by t (length es) (omega arith)
+
+  -- event k is counted at its thread
+  pub counts_next : (counts : List ℕ) (k : ℕ) → length counts ≡ 8 → thread_at es k < 8
+      → ((t : ℕ) → t < 8 → get_or counts t 0 ≡ count es t k)
+      → (t : ℕ) → t < 8 → get_or (set counts (thread_at es k) (get_or counts (thread_at es k) 0 + 1)) t 0 ≡ count es t (k + 1)
+  counts_next counts k n u h t l =
+      let x : ℕ = thread_at es k in
+      let y : ℕ = get_or counts x 0 + 1 in
+      elim (cases_eq x t) [
+        | inl q ↦
+            let a : get_or (set counts x y) t 0 ≡ y = subst (λ i. get_or (set counts x y) i 0 ≡ y) q (get_or-set_same counts x y 0 (omega arith)) in
+            let b : y ≡ suc (count es t k) = add-one (get_or counts x 0) ∙ ap suc (ap (λ i. get_or counts i 0) q ∙ h t l) in
+            a ∙ b ∙ sym (count_own es t k q) ∙ ap (count es t) (sym (add-one k))
+        | inr q ↦
+            get_or-set_other counts x t y 0 (λ z. q (sym z)) ∙ h t l ∙ sym (count_other es t k q) ∙ ap (count es t) (sym (add-one k))
+      ]
+
+  -- the rows ahead of the first thread, and of the next one
+  pub base_none : base es 0 ≡ 0
+  base_none = start_is 0
+
+  pub base_more : (t : ℕ) → base es (t + 1) ≡ base es t + count es t (length es)
+  base_more t = let a = start_is (suc t) in let b = start_is t in ap (base es) (add-one t) ∙ omega (arith, a, b)
+
+  pub base_le : (t : ℕ) → base es t ≤ length es
+  base_le t = let a = start_is t in omega (arith, a, among_le t (length es))
+
+  -- one more base is written
+  pub bases_next : (bases : List ℕ) (t b : ℕ) → t < length bases → b ≡ base es t → ((u : ℕ) → u < t → get_or bases u 0 ≡ base es u)
+      → (u : ℕ) → u < t + 1 → get_or (set bases t b) u 0 ≡ base es u
+  bases_next bases t b l e h u v =
+      ap (λ x. get_or (set bases t x) u 0) e ∙ fill_by_more (base es) bases t 0 l h u v
 
   -- the position of event i's row
   abbrev pub spot : ℕ → ℕ

@@ -1,4 +1,4 @@
--- Lists of rows in order; events that agree, and rows that agree in all they hold; a list made of choices.
+-- Lists of rows in order; events that agree; events and rows that agree in all they hold; a list made of choices.
 use Rattle.std.proofs.Common.{◌≡◌, ℕ, zero, suc, ◌<◌, List, [], ◌∷◌, length, get_or, sym, refl, ap, ◌∙◌, subst, inl, inr, arith}
 use Rattle.std.proofs.lemmas.List.{ext_get_or}
 use Rattle.std.proofs.lemmas.Bool.{cases_order}
@@ -11,6 +11,9 @@ same_threads e = ap (λ (x : Event). x.thread) e
 
 pub same_places : {a b : Event} → a ≡ b → a.place ≡ b.place
 same_places e = ap (λ (x : Event). x.place) e
+
+pub same_events : (a b : Event) → a.thread ≡ b.thread → a.place ≡ b.place → a.kind ≡ b.kind → a.subject ≡ b.subject → a.value ≡ b.value → a ≡ b
+same_events a b t p k s v = λ i. record { thread = t i; place = p i; kind = k i; subject = s i; value = v i }
 
 pub same_rows : (a b : Row) → a.event ≡ b.event → a.source.0 ≡ b.source.0 → a.source.1 ≡ b.source.1 → a.clock ≡ b.clock → a ≡ b
 same_rows a b e x y c = λ i. record { event = e i; source = (x i, y i); clock = c i }

@@ -1,5 +1,5 @@
 -- The pairs are in levels, a test tells pairs apart, and counts tell which cuts are full.
-use Rattle.std.proofs.Common.{◌≡◌, ℕ, zero, suc, ◌+◌, ◌<◌, ◌≤◌, Bool, true, ◌&&◌, eqb, leb, List, [], ◌∷◌, length, get_or, Decides, sym, refl, ap, ◌∙◌, subst, ap₂, inl, inr, arith}
+use Rattle.std.proofs.Common.{◌≡◌, ℕ, zero, suc, ◌+◌, ◌<◌, ◌≤◌, Bool, true, false, ◌&&◌, eqb, leb, List, [], ◌∷◌, length, get_or, Decides, sym, refl, ap, ◌∙◌, subst, ap₂, inl, inr, arith}
 use Rattle.std.proofs.lemmas.Bool.{cases_lt, cases_eq, eqb-true, eq-eqb, and_parts, and_from}
 use Rattle.std.proofs.lemmas.Bool.Decides.{Decides-eqb, Decides-and}
 use Rattle.std.proofs.lemmas.List.{length-set, ext_get_or, take_all}
@@ -18,7 +18,7 @@ use Rattle.explore.specs.System.{System, Steps, Goes, here, along}
 use Rattle.explore.specs.Levels.{Levelled, Tells}
 use Rattle.monitor.specs.Meaning.{Meaning}
 use Rattle.pairs.specs.declared.pair.Pair.{Pair}
-use Rattle.pairs.specs.Pairs.{pair_of, pairs, full, same, total, size_of}
+use Rattle.pairs.specs.Pairs.{pair_of, pairs, full, hit, same, total, size_of}
 use Rattle.pairs.specs.Judged.{LeadsTo}
 use Rattle.pairs.proofs.Steps.{Given, cut_advanced, zeros, next_is}
 use Rattle.pairs.proofs.Reaching.{decides_full}
@@ -79,6 +79,12 @@ total_none (suc k) = omega (arith, total_none k)
 total_count : (es : List Event) → ((i : ℕ) → i < length es → thread_at es i < 8) → (k : ℕ) → k ≤ length es → total (λ t. count es t k) 8 ≡ k
 total_count es few zero l = total_none 8
 total_count es few (suc k) l = (total_more (thread_at es k) (λ t. count es t k) 8).0 (few k l) ∙ ap suc (total_count es few k (omega arith))
+
+one_test : {P : Type 0} (x y : Bool) → Decides x P → Decides y P → x ≡ y
+one_test true true d e = refl
+one_test true false d e = sym (e.1 (d.0 refl))
+one_test false true d e = d.1 (e.0 refl)
+one_test false false d e = refl
 
 module _ {N : Type 0} (S : System N) (top : ℕ) (v : Levelled S top) where
   -- a path from a good node leads to a good node, one level up by each label
@@ -211,3 +217,9 @@ module _ (es : List Event) (n : ℕ) (m : Meaning) (g : Given es n) where
             omega (arith, ok.1 t b, full_all x.cut (d.0 f) t, h t b, count_all t))),
         (λ e. d.1 (all_full x.cut (λ t l. ap (λ c. get_or c t 0) e ∙ h t l ∙ count_all t))),
       )
+
+  -- so a hit can be told by a test that compares the counts
+  pub hit_by_counts : (counts : List ℕ) → length counts ≡ 8 → ((t : ℕ) → t < 8 → get_or counts t 0 ≡ count_of t es)
+      → (p : List ℕ) (x : Pair) → LeadsTo es n m p x → (b : Bool) → Decides b (x.cut ≡ counts) → hit es m x ≡ (b && m.bad x.code)
+  hit_by_counts counts w h p x go b d =
+      ap (λ f. f && m.bad x.code) (one_test (full es x.cut) b (full_by_counts counts w h p x go) d)

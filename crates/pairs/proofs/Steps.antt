@@ -10,6 +10,7 @@ use Rattle.order.specs.Cuts.{Cut, empty_cut, advance, MayFollow}
 use Rattle.order.specs.Tests.{may_follow}
 use Rattle.order.specs.Sound.{Sound}
 use Rattle.order.specs.Reached.{cut_of}
+use Rattle.order.specs.Waiting.{HasNext}
 use Rattle.order.proofs.Noting.{sound_of, within_of}
 use Rattle.order.proofs.Places.{same_event}
 use Rattle.order.proofs.Cuts.{advance_own, advance_other}
@@ -122,3 +123,11 @@ module _ (es : List Event) (sound : Sound es) (n : ℕ) (m : Meaning) where
       go (Some i) p =
           let f = follower_is es x.cut t (length es) i p in
           absurd (none i ((decides_may_follow es sound (cut_of x.cut) i).0 f.follows) f.own)
+
+  -- a thread whose next event is held back leads nowhere
+  pub next_held : (x : Pair) (t i : ℕ) → HasNext es (cut_of x.cut) t i → (MayFollow es (cut_of x.cut) i → ⊥) → (pairs es n m).next x t ≡ None
+  next_held x t i next held =
+      let c : Cut = cut_of x.cut in
+      next-none x t (λ j may own.
+      held (subst (MayFollow es c)
+      (same_event es sound j i may.noted next.noted (own ∙ sym next.own) (may.next ∙ ap (λ u. suc (c u)) own ∙ sym next.place)) may))

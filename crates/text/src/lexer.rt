@@ -98,8 +98,9 @@ impl<'a> Reader<'a> {
 pub fn place_at(text: &[u8], at: usize) -> Place
     ensures { result ≡ byte_place text.now at }
 {
+    let end = at.min(text.len());
     let mut place = Place::START;
-    for byte in text.iter().take(at) {
+    for byte in &text[..end] {
         place = place.past(*byte);
     }
     place

@@ -1,10 +1,11 @@
-use Rattle.std.proofs.Common.{refl, subst}
+use Rattle.std.proofs.Common.{◌<◌, ◌≤◌, refl, subst, arith}
 use Rattle.formula.specs.Suiting.{Suited}
 use Rattle.formula.specs.Table.{Sound}
 use Rattle.formula.specs.Words.{CompiledTo}
 use Rattle.formula.proofs.Made.{is_some, tabled}
 use Rattle.formula.proofs.Rows.{sound_from}
 use Rattle.formula.proofs.Stands.{watch_from}
+use Rattle.formula.proofs.Truths.{size_pos}
 use Rattle.formula.proofs.rule.made.Goals as goal
 
 pub unwrap-table-requires : goal.unwrap-table-requires
@@ -21,7 +22,11 @@ invariant_of-result c =
     let told = c.in_ok-check.ensures legal.0 sp in
     let x = c.unwrap-table.result in
     let tab = tabled t v c.in_ok-spelling.spelling legal read.2 c.in_ok-check.ensures c.compile.result (subst (λ ws. CompiledTo ws c.compile.result) c.as_slice.ensures.words c.compile.ensures.table) x c.unwrap-table.ensures legal.0 legal.1 legal.2 in
-    record { sound = subst (λ n. Sound n x.len x.nodes) c.count.ensures.count (sound_from v x.len x.nodes legal.0 tab told.1) }
+    record {
+      some = omega (arith, tab.all, size_pos legal.0);
+      few = omega (arith, tab.all, told.0);
+      sound = subst (λ n. Sound n x.len x.nodes) c.count.ensures.count (sound_from v x.len x.nodes legal.0 tab told.1);
+    }
 
 pub returns : goal.returns
 returns c =

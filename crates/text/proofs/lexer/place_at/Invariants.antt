@@ -1,10 +1,10 @@
-use Rattle.std.proofs.Common.{◌≡◌, ◌+◌, ◌≤◌, length, take}
+use Rattle.std.proofs.Common.{◌≡◌, ◌+◌, ◌≤◌, drop}
 use Rattle.text.specs.Places.{behind_all, byte_place}
 use Rattle.text.proofs.lexer.place_at.Given as goal
 
 -- the bytes that are left lead from the place to the one that is asked for
 abbrev pub invariant-loop-byte : goal.invariant-loop-byte
 invariant-loop-byte l =
-    (l.place.line + length l.byte-iterator.iter.rest.now ≤ length l.text + 1)
-    × (l.place.column + length l.byte-iterator.iter.rest.now ≤ length l.text + 1)
-    × (behind_all l.place (take l.byte-iterator.n l.byte-iterator.iter.rest.now) ≡ byte_place l.text l.at)
+    (l.place.line ≤ l.byte-index + 1)
+    × (l.place.column ≤ l.byte-index + 1)
+    × (behind_all l.place (drop l.byte-index l.byte-items) ≡ byte_place l.text l.at)

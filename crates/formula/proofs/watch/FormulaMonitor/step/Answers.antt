@@ -39,8 +39,8 @@ loop-i-preserved-then-holds c =
     let x = item t.table.nodes t.table.len i c.in-Some.node.now k.low k.item in
     record {
       ahead = k.ahead;
-      truths = ap (bit_or l.next) (c.only-next.ensures ∙ only_pow i (omega (arith, t.table.few, x.0)))
-          ∙ turn_yes (length t.starts) t.table.len t.table.nodes t.sound t.table.few c.args.code c.args.action i (length (rest l.i-iterator)) l.next c.in-Some.node.now x.0 k.more x.1 l.invariant.truths (sym c.if-holds.ensures)
+      truths = ap (bit_or l.next) (c.only-next.ensures ∙ only_pow i (omega (arith, t.few, x.0)))
+          ∙ turn_yes (length t.starts) t.table.len t.table.nodes t.sound t.few c.args.code c.args.action i (length (rest l.i-iterator)) l.next c.in-Some.node.now x.0 k.more x.1 l.invariant.truths (sym c.if-holds.ensures)
           ∙ ap (λ j. code_of 62 (from t.table.len (eval t.table.len t.table.nodes (bit_of c.args.code) c.args.action) j)) k.here;
     }
 
@@ -55,7 +55,7 @@ loop-i-preserved c =
     let x = item t.table.nodes t.table.len i c.in-Some.node.now k.low k.item in
     record {
       ahead = k.ahead;
-      truths = turn_no (length t.starts) t.table.len t.table.nodes t.sound t.table.few c.args.code c.args.action i (length (rest l.i-iterator)) l.next c.in-Some.node.now x.0 k.more x.1 l.invariant.truths (sym c.if-holds.ensures)
+      truths = turn_no (length t.starts) t.table.len t.table.nodes t.sound t.few c.args.code c.args.action i (length (rest l.i-iterator)) l.next c.in-Some.node.now x.0 k.more x.1 l.invariant.truths (sym c.if-holds.ensures)
           ∙ ap (λ j. code_of 62 (from t.table.len (eval t.table.len t.table.nodes (bit_of c.args.code) c.args.action) j)) k.here;
     }
 
@@ -71,8 +71,8 @@ returns-then-bad c =
     ] in
     let value = ap (λ x. bit_or (bit_or c.loop-i.next x) c.only-all.result) (c.only.ensures ∙ only_pow 60 (omega arith))
     ∙ ap (bit_or (bit_or c.loop-i.next (2 ^ 60))) (c.only-all.ensures ∙ only_pow 61 (omega arith))
-    ∙ whole_yes t.table.len t.table.nodes t.table.some t.table.few c.args.code c.args.action c.loop-i.next inv told in
-    let s = settled (length t.starts) t.table.len t.table.nodes t.sound t.table.some t.table.few c.args.code c.args.action _ value in
+    ∙ whole_yes t.table.len t.table.nodes t.some t.few c.args.code c.args.action c.loop-i.next inv told in
+    let s = settled (length t.starts) t.table.len t.table.nodes t.sound t.some t.few c.args.code c.args.action _ value in
     record { value = value; rule = s.0; alone = s.1 }
 
 pub returns-else-not-has : goal.returns-else-not-has
@@ -83,6 +83,6 @@ returns-else-not-has c =
     let told : (bit_of c.args.code 61 || not (bit_of c.loop-i.next 0)) ≡ false =
     or_from _ _ (sym c.if-bad.ensures) (not_from_true _ (sym c.if-not-has.ensures)) in
     let value = ap (bit_or c.loop-i.next) (c.only.ensures ∙ only_pow 60 (omega arith))
-    ∙ whole_no t.table.len t.table.nodes t.table.some t.table.few c.args.code c.args.action c.loop-i.next inv told in
-    let s = settled (length t.starts) t.table.len t.table.nodes t.sound t.table.some t.table.few c.args.code c.args.action _ value in
+    ∙ whole_no t.table.len t.table.nodes t.some t.few c.args.code c.args.action c.loop-i.next inv told in
+    let s = settled (length t.starts) t.table.len t.table.nodes t.sound t.some t.few c.args.code c.args.action _ value in
     record { value = value; rule = s.0; alone = s.1 }
