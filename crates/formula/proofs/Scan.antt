@@ -202,7 +202,7 @@ module _ (t : List ℕ) (i : ℕ) (ws : List Word) (h : i < length t) (s : Scann
       earlier : (j : ℕ) → j < length ws → get_or s.pre j 0 ≡ get_or (s.pre ++ i ∷ []) j 0
       earlier j l = sym (get_or_append_left s.pre (i ∷ []) 0 j (omega (arith, s.some)))
 
-      passed : 61 ≤ length ws → Scanned t (i + 1) ws
+      pub passed : 61 ≤ length ws → Scanned t (i + 1) ws
       passed full = record {
         pre = s.pre ++ i ∷ [];
         split = split_more;
@@ -213,7 +213,7 @@ module _ (t : List ℕ) (i : ℕ) (ws : List Word) (h : i < length t) (s : Scann
         read = λ j l. subst (λ k. ReadsWord t k (Ok (word_at ws j))) (earlier j l) (s.read j l);
       }
 
-      stored : length ws < 61 → Scanned t (i + 1) (ws ++ w ∷ [])
+      pub stored : length ws < 61 → Scanned t (i + 1) (ws ++ w ∷ [])
       stored l61 =
           let long : length (ws ++ w ∷ []) ≡ length ws + 1 = omega (arith, length-append ws (w ∷ [])) in
           record {

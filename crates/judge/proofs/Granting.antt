@@ -78,7 +78,7 @@ module _ (t : Trace) (noted : Noted (opening_of t) (noted_of t)) where
   pub recorded_of : Recorded (opening_of t) (noted_of t) (opening_of t).threads
   recorded_of = record { noted = noted; few = (opening_few t).0; threads = refl }
 
-  small_of : Small (opening_of t)
+  pub small_of : Small (opening_of t)
   small_of = opening_few t
 
   module _ (seen : List Event) (is : seen ≡ noted_of t) where

@@ -32,6 +32,6 @@ impl Keyed<Place> for Event {
     ghost decides = { decides_place };
 
     fn matches(&self, key: Place) -> bool {
-        Place::from(*self) == key
+        self.thread == key.thread && self.place == key.place
     }
 }
