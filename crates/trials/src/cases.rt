@@ -12,7 +12,8 @@ pub struct Case<'a> {
     pub text: &'a [u8],
 }
 
-// How many digits the input begins with.
+// How many digits the input begins with. Stays beside the formula's count of digits, which is that
+// crate's own: to share five lines it would have to hand them out.
 fn digit_count(input: &[u8]) -> usize
     ensures count { result ≡ length (take_while is_ascii_digit input.now) }
     ensures within { result ≤ length input.now }

@@ -3,6 +3,8 @@
 
 mod cases;
 mod small;
+#[cfg(test)]
+mod tests;
 
 use cases::{Case, next_case};
 use events::Event;
